@@ -28,70 +28,70 @@ bare f = eqb (f .first) 0 && (eqb (f .second) 0 && (eqb (f .third) 0 && not (f .
 abbrev pub by-nineteen : Nineteen → Fields → Option Instruction
 by-nineteen nineteen.Illegal f = None
 by-nineteen (nineteen.Branch target) f =
-    given (eqb (f .third) 0 && branch-valid target (f .first)) (Some (BranchRegister target (f .first) (f .second) (f .last)))
+    given (eqb (f .third) 0 && branch-valid target (f .first)) (Some (BranchRegister (record { target = target; options = f .first; bit = f .second; link = f .last })))
 by-nineteen (nineteen.ConditionLogical op) f =
-    given (not (f .last)) (Some (ConditionLogical op (f .first) (f .second) (f .third)))
+    given (not (f .last)) (Some (ConditionLogical (record { op = op; target = f .first; first = f .second; second = f .third })))
 by-nineteen (nineteen.Bare op) f = given (bare f) (Some (Bare op))
 by-nineteen nineteen.MoveConditionField f =
     given (eqb (f .first % 4) 0 && (eqb (f .second % 4) 0 && (eqb (f .third) 0 && not (f .last))))
-    (Some (MoveConditionField (f .first / 4) (f .second / 4)))
+    (Some (MoveConditionField (record { to = f .first / 4; from = f .second / 4 })))
 
 -- under the primary opcode 31
 abbrev pub by-extended : Extended → Fields → Option Instruction
 by-extended extended.Illegal f = None
-by-extended (extended.Arithmetic op oe) f = Some (Arithmetic op (f .first) (f .second) (f .third) oe (f .last))
+by-extended (extended.Arithmetic op oe) f = Some (Arithmetic (record { op = op; rt = f .first; ra = f .second; rb = f .third; oe = oe; rc = f .last }))
 by-extended (extended.ArithmeticUnary op oe) f =
-    given (eqb (f .third) 0) (Some (ArithmeticUnary op (f .first) (f .second) oe (f .last)))
-by-extended (extended.MultiplyHigh op) f = Some (MultiplyHigh op (f .first) (f .second) (f .third) (f .last))
-by-extended (extended.Logical op) f = Some (Logical op (f .second) (f .first) (f .third) (f .last))
-by-extended (extended.LogicalUnary op) f = given (eqb (f .third) 0) (Some (LogicalUnary op (f .second) (f .first) (f .last)))
-by-extended extended.ShiftRightImmediate f = Some (ShiftRightImmediate (f .second) (f .first) (f .third) (f .last))
-by-extended extended.Select f = given (not (f .last)) (Some (Select (f .first) (f .second) (f .third) (f .extended / 32)))
+    given (eqb (f .third) 0) (Some (ArithmeticUnary (record { op = op; rt = f .first; ra = f .second; oe = oe; rc = f .last })))
+by-extended (extended.MultiplyHigh op) f = Some (MultiplyHigh (record { op = op; rt = f .first; ra = f .second; rb = f .third; rc = f .last }))
+by-extended (extended.Logical op) f = Some (Logical (record { op = op; ra = f .second; rs = f .first; rb = f .third; rc = f .last }))
+by-extended (extended.LogicalUnary op) f = given (eqb (f .third) 0) (Some (LogicalUnary (record { op = op; ra = f .second; rs = f .first; rc = f .last })))
+by-extended extended.ShiftRightImmediate f = Some (ShiftRightImmediate (record { ra = f .second; rs = f .first; amount = f .third; rc = f .last }))
+by-extended extended.Select f = given (not (f .last)) (Some (Select (record { rt = f .first; ra = f .second; rb = f .third; bit = f .extended / 32 })))
 by-extended (extended.Compare comparison) f =
-    given (eqb (f .first % 4) 0 && not (f .last)) (Some (Compare comparison (f .first / 4) (f .second) (f .third)))
-by-extended extended.Trap f = given (not (f .last)) (Some (Trap (f .first) (f .second) (f .third)))
+    given (eqb (f .first % 4) 0 && not (f .last)) (Some (Compare (record { comparison = comparison; field = f .first / 4; ra = f .second; rb = f .third })))
+by-extended extended.Trap f = given (not (f .last)) (Some (Trap (record { conditions = f .first; ra = f .second; rb = f .third })))
 by-extended (extended.Load op update) f =
-    given (not (f .last) && load-valid update (f .first) (f .second)) (Some (Load op (f .first) (f .second) (Index (f .third)) update))
+    given (not (f .last) && load-valid update (f .first) (f .second)) (Some (Load (record { op = op; rt = f .first; ra = f .second; offset = Index (f .third); update = update })))
 by-extended (extended.Store op update) f =
-    given (not (f .last) && store-valid update (f .second)) (Some (Store op (f .first) (f .second) (Index (f .third)) update))
-by-extended (extended.LoadIndexed op) f = given (not (f .last)) (Some (LoadIndexed op (f .first) (f .second) (f .third)))
-by-extended (extended.StoreIndexed op) f = given (not (f .last)) (Some (StoreIndexed op (f .first) (f .second) (f .third)))
-by-extended extended.StoreConditional f = given (f .last) (Some (StoreConditional (f .first) (f .second) (f .third)))
+    given (not (f .last) && store-valid update (f .second)) (Some (Store (record { op = op; rs = f .first; ra = f .second; offset = Index (f .third); update = update })))
+by-extended (extended.LoadIndexed op) f = given (not (f .last)) (Some (LoadIndexed (record { op = op; rt = f .first; ra = f .second; rb = f .third })))
+by-extended (extended.StoreIndexed op) f = given (not (f .last)) (Some (StoreIndexed (record { op = op; rs = f .first; ra = f .second; rb = f .third })))
+by-extended extended.StoreConditional f = given (f .last) (Some (StoreConditional (record { rs = f .first; ra = f .second; rb = f .third })))
 by-extended extended.MoveFromXer f =
     given (eqb (f .first % 4) 0 && (eqb (f .second) 0 && (eqb (f .third) 0 && not (f .last)))) (Some (MoveFromXer (f .first / 4)))
 by-extended (extended.Move op) f =
-    given (eqb (f .second) 0 && (eqb (f .third) 0 && not (f .last))) (Some (Move op (f .first)))
+    given (eqb (f .second) 0 && (eqb (f .third) 0 && not (f .last))) (Some (Move (record { op = op; register = f .first })))
 by-extended extended.WriteExternalEnable f =
     given (eqb (f .first) 0 && (eqb (f .second) 0 && (eqb (f .third % 16) 0 && not (f .last))))
     (Some (WriteExternalEnable (eqb (f .third / 16) 1)))
 by-extended extended.MoveToConditionFields f =
     given (ltb (f .second) 16 && (eqb (f .third % 2) 0 && not (f .last)))
-    (Some (MoveToConditionFields (f .second * 16 + f .third / 2) (f .first)))
-by-extended (extended.MoveSpecial op) f = given (not (f .last)) (Some (MoveSpecial op (f .first) (f .third * 32 + f .second)))
+    (Some (MoveToConditionFields (record { mask = f .second * 16 + f .third / 2; rs = f .first })))
+by-extended (extended.MoveSpecial op) f = given (not (f .last)) (Some (MoveSpecial (record { op = op; register = f .first; number = f .third * 32 + f .second })))
 by-extended (extended.TlbWord op) f =
-    given (ltb (f .third) 3 && not (f .last)) (Some (TlbWord op (f .first) (f .second) (f .third)))
-by-extended extended.TlbSearch f = Some (TlbSearch (f .first) (f .second) (f .third) (f .last))
+    given (ltb (f .third) 3 && not (f .last)) (Some (TlbWord (record { op = op; register = f .first; ra = f .second; word = f .third })))
+by-extended extended.TlbSearch f = Some (TlbSearch (record { rt = f .first; ra = f .second; rb = f .third; rc = f .last }))
 by-extended extended.Barrier f = given (eqb (f .second) 0 && (eqb (f .third) 0 && not (f .last))) (Some (Barrier (f .first)))
 by-extended (extended.Bare op) f = given (bare f) (Some (Bare op))
 
 -- by the primary opcode, of a word and its fields
 abbrev pub by-primary : Primary → ℕ → Fields → Option Instruction
 by-primary primary.Illegal w f = None
-by-primary (primary.Immediate op) w f = Some (Immediate op (f .first) (f .second) (f .low))
-by-primary (primary.LogicalImmediate op) w f = Some (LogicalImmediate op (f .second) (f .first) (f .low))
+by-primary (primary.Immediate op) w f = Some (Immediate (record { op = op; rt = f .first; ra = f .second; immediate = f .low }))
+by-primary (primary.LogicalImmediate op) w f = Some (LogicalImmediate (record { op = op; ra = f .second; rs = f .first; immediate = f .low }))
 by-primary (primary.CompareImmediate comparison) w f =
-    given (eqb (f .first % 4) 0) (Some (CompareImmediate comparison (f .first / 4) (f .second) (f .low)))
-by-primary primary.TrapImmediate w f = Some (TrapImmediate (f .first) (f .second) (f .low))
+    given (eqb (f .first % 4) 0) (Some (CompareImmediate (record { comparison = comparison; field = f .first / 4; ra = f .second; immediate = f .low })))
+by-primary primary.TrapImmediate w f = Some (TrapImmediate (record { conditions = f .first; ra = f .second; immediate = f .low }))
 by-primary (primary.Rotate op) w f =
-    Some (Rotate op (f .second) (f .first) (f .third) (f .extended / 32) (f .extended % 32) (f .last))
+    Some (Rotate (record { op = op; ra = f .second; rs = f .first; amount = f .third; begin = f .extended / 32; end = f .extended % 32; rc = f .last }))
 by-primary (primary.Load op update) w f =
-    given (load-valid update (f .first) (f .second)) (Some (Load op (f .first) (f .second) (Displacement (f .low)) update))
+    given (load-valid update (f .first) (f .second)) (Some (Load (record { op = op; rt = f .first; ra = f .second; offset = Displacement (f .low); update = update })))
 by-primary (primary.Store op update) w f =
-    given (store-valid update (f .second)) (Some (Store op (f .first) (f .second) (Displacement (f .low)) update))
+    given (store-valid update (f .second)) (Some (Store (record { op = op; rs = f .first; ra = f .second; offset = Displacement (f .low); update = update })))
 by-primary primary.BranchConditional w f =
-    given (options-valid (f .first)) (Some (BranchConditional (f .first) (f .second) (f .low / 4) (eqb (f .low / 2 % 2) 1) (f .last)))
+    given (options-valid (f .first)) (Some (BranchConditional (record { options = f .first; bit = f .second; displacement = f .low / 4; absolute = eqb (f .low / 2 % 2) 1; link = f .last })))
 by-primary primary.SystemCall w f = given (eqb w 0x44000002) (Some SystemCall)
-by-primary primary.Branch w f = Some (Branch (w / 4 % 0x1000000) (eqb (w / 2 % 2) 1) (f .last))
+by-primary primary.Branch w f = Some (Branch (record { displacement = w / 4 % 0x1000000; absolute = eqb (w / 2 % 2) 1; link = f .last }))
 by-primary primary.Nineteen w f = by-nineteen (nineteenAt (f .extended)) f
 by-primary primary.Extended w f = by-extended (extendedAt (f .extended)) f
 

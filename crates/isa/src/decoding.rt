@@ -8,8 +8,7 @@ ghost use Rattle.isa.specs.Ranges.{DecodedInRange};
 use crate::fields;
 use crate::fields::Fields;
 use crate::fields::given;
-use crate::instruction::Instruction;
-use crate::instruction::Offset;
+use crate::instruction::*;
 use crate::table::Extended;
 use crate::table::Nineteen;
 use crate::table::Primary;
@@ -36,29 +35,29 @@ fn by_nineteen(form: Nineteen, f: Fields) -> Option<Instruction>
         Nineteen::Illegal => None,
         Nineteen::Branch(target) => given(
             f.third == 0 && valid_branch(target, f.first),
-            Some(Instruction::BranchRegister {
+            Some(Instruction::BranchRegister(BranchRegister {
                 target,
                 options: f.first,
                 bit: f.second,
                 link: f.last,
-            }),
+            })),
         ),
         Nineteen::ConditionLogical(op) => given(
             !f.last,
-            Some(Instruction::ConditionLogical {
+            Some(Instruction::ConditionLogical(ConditionLogical {
                 op,
                 target: f.first,
                 first: f.second,
                 second: f.third,
-            }),
+            })),
         ),
         Nineteen::Bare(op) => given(bare(f), Some(Instruction::Bare { op })),
         Nineteen::MoveConditionField => given(
             f.first % 4 == 0 && f.second % 4 == 0 && f.third == 0 && !f.last,
-            Some(Instruction::MoveConditionField {
+            Some(Instruction::MoveConditionField(MoveConditionField {
                 to: f.first / 4,
                 from: f.second / 4,
-            }),
+            })),
         ),
     }
 }
@@ -70,135 +69,135 @@ fn by_extended(form: Extended, f: Fields) -> Option<Instruction>
 {
     match form {
         Extended::Illegal => None,
-        Extended::Arithmetic(op, overflow) => {
-            Some(Instruction::Arithmetic {
+        Extended::Arithmetic(op, oe) => {
+            Some(Instruction::Arithmetic(Arithmetic {
                 op,
                 rt: f.first,
                 ra: f.second,
                 rb: f.third,
-                overflow,
-                record: f.last,
-            })
+                oe,
+                rc: f.last,
+            }))
         }
-        Extended::ArithmeticUnary(op, overflow) => given(
+        Extended::ArithmeticUnary(op, oe) => given(
             f.third == 0,
-            Some(Instruction::ArithmeticUnary {
+            Some(Instruction::ArithmeticUnary(ArithmeticUnary {
                 op,
                 rt: f.first,
                 ra: f.second,
-                overflow,
-                record: f.last,
-            }),
+                oe,
+                rc: f.last,
+            })),
         ),
         Extended::MultiplyHigh(op) => {
-            Some(Instruction::MultiplyHigh {
+            Some(Instruction::MultiplyHigh(MultiplyHigh {
                 op,
                 rt: f.first,
                 ra: f.second,
                 rb: f.third,
-                record: f.last,
-            })
+                rc: f.last,
+            }))
         }
-        Extended::Logical(op) => Some(Instruction::Logical {
+        Extended::Logical(op) => Some(Instruction::Logical(Logical {
             op,
             ra: f.second,
             rs: f.first,
             rb: f.third,
-            record: f.last,
-        }),
+            rc: f.last,
+        })),
         Extended::LogicalUnary(op) => given(
             f.third == 0,
-            Some(Instruction::LogicalUnary {
+            Some(Instruction::LogicalUnary(LogicalUnary {
                 op,
                 ra: f.second,
                 rs: f.first,
-                record: f.last,
-            }),
+                rc: f.last,
+            })),
         ),
         Extended::ShiftRightImmediate => {
-            Some(Instruction::ShiftRightImmediate {
+            Some(Instruction::ShiftRightImmediate(ShiftRightImmediate {
                 ra: f.second,
                 rs: f.first,
                 amount: f.third,
-                record: f.last,
-            })
+                rc: f.last,
+            }))
         }
         Extended::Select => given(
             !f.last,
-            Some(Instruction::Select {
+            Some(Instruction::Select(Select {
                 rt: f.first,
                 ra: f.second,
                 rb: f.third,
                 bit: f.extended / 32,
-            }),
+            })),
         ),
         Extended::Compare(comparison) => given(
             f.first % 4 == 0 && !f.last,
-            Some(Instruction::Compare {
+            Some(Instruction::Compare(Compare {
                 comparison,
                 field: f.first / 4,
                 ra: f.second,
                 rb: f.third,
-            }),
+            })),
         ),
         Extended::Trap => given(
             !f.last,
-            Some(Instruction::Trap {
+            Some(Instruction::Trap(Trap {
                 conditions: f.first,
                 ra: f.second,
                 rb: f.third,
-            }),
+            })),
         ),
         Extended::Load(op, update) => given(
             !f.last && valid_load(update, f.first, f.second),
-            Some(Instruction::Load {
+            Some(Instruction::Load(Load {
                 op,
                 rt: f.first,
                 ra: f.second,
                 offset: Offset::Index(f.third),
                 update,
-            }),
+            })),
         ),
         Extended::Store(op, update) => given(
             !f.last && valid_store(update, f.second),
-            Some(Instruction::Store {
+            Some(Instruction::Store(Store {
                 op,
                 rs: f.first,
                 ra: f.second,
                 offset: Offset::Index(f.third),
                 update,
-            }),
+            })),
         ),
         Extended::LoadIndexed(op) => {
             given(
                 !f.last,
-                Some(Instruction::LoadIndexed {
+                Some(Instruction::LoadIndexed(LoadIndexed {
                     op,
                     rt: f.first,
                     ra: f.second,
                     rb: f.third,
-                }),
+                })),
             )
         }
         Extended::StoreIndexed(op) => {
             given(
                 !f.last,
-                Some(Instruction::StoreIndexed {
+                Some(Instruction::StoreIndexed(StoreIndexed {
                     op,
                     rs: f.first,
                     ra: f.second,
                     rb: f.third,
-                }),
+                })),
             )
         }
         Extended::StoreConditional => {
             given(
                 f.last,
-                Some(Instruction::StoreConditional {
+                Some(Instruction::StoreConditional(StoreConditional {
                     rs: f.first,
                     ra: f.second,
                     rb: f.third,
-                }),
+                })),
             )
         }
         Extended::MoveFromXer => given(
@@ -207,10 +206,10 @@ fn by_extended(form: Extended, f: Fields) -> Option<Instruction>
         ),
         Extended::Move(op) => given(
             f.second == 0 && f.third == 0 && !f.last,
-            Some(Instruction::Move {
+            Some(Instruction::Move(Move {
                 op,
                 register: f.first,
-            }),
+            })),
         ),
         Extended::WriteExternalEnable => given(
             f.first == 0 && f.second == 0 && f.third % 16 == 0 && !f.last,
@@ -220,35 +219,35 @@ fn by_extended(form: Extended, f: Fields) -> Option<Instruction>
         ),
         Extended::MoveToConditionFields => given(
             f.second < 16 && f.third % 2 == 0 && !f.last,
-            Some(Instruction::MoveToConditionFields {
+            Some(Instruction::MoveToConditionFields(MoveToConditionFields {
                 mask: f.second * 16 + f.third / 2,
                 rs: f.first,
-            }),
+            })),
         ),
         Extended::MoveSpecial(op) => given(
             !f.last,
-            Some(Instruction::MoveSpecial {
+            Some(Instruction::MoveSpecial(MoveSpecial {
                 op,
                 register: f.first,
                 number: f.third * 32 + f.second,
-            }),
+            })),
         ),
         Extended::TlbWord(op) => given(
             f.third < 3 && !f.last,
-            Some(Instruction::TlbWord {
+            Some(Instruction::TlbWord(TlbWord {
                 op,
                 register: f.first,
                 ra: f.second,
                 word: f.third,
-            }),
+            })),
         ),
         Extended::TlbSearch => {
-            Some(Instruction::TlbSearch {
+            Some(Instruction::TlbSearch(TlbSearch {
                 rt: f.first,
                 ra: f.second,
                 rb: f.third,
-                record: f.last,
-            })
+                rc: f.last,
+            }))
         }
         Extended::Barrier => given(
             f.second == 0 && f.third == 0 && !f.last,
@@ -265,81 +264,81 @@ fn by_primary(form: Primary, word: u32, f: Fields) -> Option<Instruction>
 {
     match form {
         Primary::Illegal => None,
-        Primary::Immediate(op) => Some(Instruction::Immediate {
+        Primary::Immediate(op) => Some(Instruction::Immediate(Immediate {
             op,
             rt: f.first,
             ra: f.second,
             immediate: f.low,
-        }),
+        })),
         Primary::LogicalImmediate(op) => {
-            Some(Instruction::LogicalImmediate {
+            Some(Instruction::LogicalImmediate(LogicalImmediate {
                 op,
                 ra: f.second,
                 rs: f.first,
                 immediate: f.low,
-            })
+            }))
         }
         Primary::CompareImmediate(comparison) => given(
             f.first % 4 == 0,
-            Some(Instruction::CompareImmediate {
+            Some(Instruction::CompareImmediate(CompareImmediate {
                 comparison,
                 field: f.first / 4,
                 ra: f.second,
                 immediate: f.low,
-            }),
+            })),
         ),
         Primary::TrapImmediate => {
-            Some(Instruction::TrapImmediate {
+            Some(Instruction::TrapImmediate(TrapImmediate {
                 conditions: f.first,
                 ra: f.second,
                 immediate: f.low,
-            })
+            }))
         }
-        Primary::Rotate(op) => Some(Instruction::Rotate {
+        Primary::Rotate(op) => Some(Instruction::Rotate(Rotate {
             op,
             ra: f.second,
             rs: f.first,
             amount: f.third,
             begin: f.extended / 32,
             end: f.extended % 32,
-            record: f.last,
-        }),
+            rc: f.last,
+        })),
         Primary::Load(op, update) => given(
             valid_load(update, f.first, f.second),
-            Some(Instruction::Load {
+            Some(Instruction::Load(Load {
                 op,
                 rt: f.first,
                 ra: f.second,
                 offset: Offset::Displacement(f.low),
                 update,
-            }),
+            })),
         ),
         Primary::Store(op, update) => given(
             valid_store(update, f.second),
-            Some(Instruction::Store {
+            Some(Instruction::Store(Store {
                 op,
                 rs: f.first,
                 ra: f.second,
                 offset: Offset::Displacement(f.low),
                 update,
-            }),
+            })),
         ),
         Primary::BranchConditional => given(
             valid_options(f.first),
-            Some(Instruction::BranchConditional {
+            Some(Instruction::BranchConditional(BranchConditional {
                 options: f.first,
                 bit: f.second,
                 displacement: f.low / 4,
                 absolute: f.low / 2 % 2 == 1,
                 link: f.last,
-            }),
+            })),
         ),
         Primary::SystemCall => given(word == 0x4400_0002, Some(Instruction::SystemCall)),
-        Primary::Branch => Some(Instruction::Branch {
+        Primary::Branch => Some(Instruction::Branch(Branch {
             displacement: word / 4 % 0x100_0000,
             absolute: word / 2 % 2 == 1,
             link: f.last,
-        }),
+        })),
         Primary::Nineteen => by_nineteen(nineteen_at(f.extended), f),
         Primary::Extended => by_extended(extended_at(f.extended), f),
     }

@@ -1,4 +1,5 @@
-//! The instructions of the readout core, one variant for each format.
+//! The instructions of the readout core, one case for each format. Immediates and displacements are the bits of their
+//! field, not yet extended by their sign; `oe` and `rc` are the bits OE and Rc.
 
 /// The number of a register, below 32 in every decoded instruction.
 pub type Register = u32;
@@ -186,228 +187,307 @@ pub enum BareOp {
     Tlbsync,
 }
 
-/// An instruction. Immediates and displacements are the field's bits, not yet extended by their sign.
+/// addi, addis, addic, addic., subfic, mulli.
+#[derive(Clone, Copy)]
+pub struct Immediate {
+    pub op: ImmediateOp,
+    pub rt: Register,
+    pub ra: Register,
+    pub immediate: u32,
+}
+
+/// andi., andis., ori, oris, xori, xoris.
+#[derive(Clone, Copy)]
+pub struct LogicalImmediate {
+    pub op: LogicalImmediateOp,
+    pub ra: Register,
+    pub rs: Register,
+    pub immediate: u32,
+}
+
+/// cmpi, cmpli, into the condition field.
+#[derive(Clone, Copy)]
+pub struct CompareImmediate {
+    pub comparison: Comparison,
+    pub field: u32,
+    pub ra: Register,
+    pub immediate: u32,
+}
+
+/// twi, with the conditions that trap.
+#[derive(Clone, Copy)]
+pub struct TrapImmediate {
+    pub conditions: u32,
+    pub ra: Register,
+    pub immediate: u32,
+}
+
+/// lbz, lhz, lha, lwz, with u, x and ux.
+#[derive(Clone, Copy)]
+pub struct Load {
+    pub op: LoadOp,
+    pub rt: Register,
+    pub ra: Register,
+    pub offset: Offset,
+    pub update: bool,
+}
+
+/// stb, sth, stw, with u, x and ux.
+#[derive(Clone, Copy)]
+pub struct Store {
+    pub op: StoreOp,
+    pub rs: Register,
+    pub ra: Register,
+    pub offset: Offset,
+    pub update: bool,
+}
+
+/// b, with AA and LK; the displacement counts words.
+#[derive(Clone, Copy)]
+pub struct Branch {
+    pub displacement: u32,
+    pub absolute: bool,
+    pub link: bool,
+}
+
+/// bc, with AA and LK; the displacement counts words.
+#[derive(Clone, Copy)]
+pub struct BranchConditional {
+    pub options: u32,
+    pub bit: u32,
+    pub displacement: u32,
+    pub absolute: bool,
+    pub link: bool,
+}
+
+/// bclr, bcctr, with LK.
+#[derive(Clone, Copy)]
+pub struct BranchRegister {
+    pub target: BranchTarget,
+    pub options: u32,
+    pub bit: u32,
+    pub link: bool,
+}
+
+/// rlwimi, rlwinm, rlwnm; the amount is a number, and a register's for rlwnm.
+#[derive(Clone, Copy)]
+pub struct Rotate {
+    pub op: RotateOp,
+    pub ra: Register,
+    pub rs: Register,
+    pub amount: u32,
+    pub begin: u32,
+    pub end: u32,
+    pub rc: bool,
+}
+
+/// crand, crandc, creqv, crnand, crnor, cror, crorc, crxor.
+#[derive(Clone, Copy)]
+pub struct ConditionLogical {
+    pub op: ConditionOp,
+    pub target: u32,
+    pub first: u32,
+    pub second: u32,
+}
+
+/// mcrf.
+#[derive(Clone, Copy)]
+pub struct MoveConditionField {
+    pub to: u32,
+    pub from: u32,
+}
+
+/// add, addc, adde, subf, subfc, subfe, mullw, divw, divwu, with OE and Rc.
+#[derive(Clone, Copy)]
+pub struct Arithmetic {
+    pub op: ArithmeticOp,
+    pub rt: Register,
+    pub ra: Register,
+    pub rb: Register,
+    pub oe: bool,
+    pub rc: bool,
+}
+
+/// addme, addze, subfme, subfze, neg, with OE and Rc.
+#[derive(Clone, Copy)]
+pub struct ArithmeticUnary {
+    pub op: ArithmeticUnaryOp,
+    pub rt: Register,
+    pub ra: Register,
+    pub oe: bool,
+    pub rc: bool,
+}
+
+/// mulhw, mulhwu, with Rc.
+#[derive(Clone, Copy)]
+pub struct MultiplyHigh {
+    pub op: MultiplyHighOp,
+    pub rt: Register,
+    pub ra: Register,
+    pub rb: Register,
+    pub rc: bool,
+}
+
+/// and, andc, nand, or, orc, nor, xor, eqv, slw, srw, sraw, with Rc.
+#[derive(Clone, Copy)]
+pub struct Logical {
+    pub op: LogicalOp,
+    pub ra: Register,
+    pub rs: Register,
+    pub rb: Register,
+    pub rc: bool,
+}
+
+/// extsb, extsh, cntlzw, with Rc.
+#[derive(Clone, Copy)]
+pub struct LogicalUnary {
+    pub op: LogicalUnaryOp,
+    pub ra: Register,
+    pub rs: Register,
+    pub rc: bool,
+}
+
+/// srawi, with Rc.
+#[derive(Clone, Copy)]
+pub struct ShiftRightImmediate {
+    pub ra: Register,
+    pub rs: Register,
+    pub amount: u32,
+    pub rc: bool,
+}
+
+/// isel, by a bit of the condition register.
+#[derive(Clone, Copy)]
+pub struct Select {
+    pub rt: Register,
+    pub ra: Register,
+    pub rb: Register,
+    pub bit: u32,
+}
+
+/// cmp, cmpl, into the condition field.
+#[derive(Clone, Copy)]
+pub struct Compare {
+    pub comparison: Comparison,
+    pub field: u32,
+    pub ra: Register,
+    pub rb: Register,
+}
+
+/// tw, with the conditions that trap.
+#[derive(Clone, Copy)]
+pub struct Trap {
+    pub conditions: u32,
+    pub ra: Register,
+    pub rb: Register,
+}
+
+/// lhbrx, lwbrx, lwarx.
+#[derive(Clone, Copy)]
+pub struct LoadIndexed {
+    pub op: LoadIndexedOp,
+    pub rt: Register,
+    pub ra: Register,
+    pub rb: Register,
+}
+
+/// sthbrx, stwbrx.
+#[derive(Clone, Copy)]
+pub struct StoreIndexed {
+    pub op: StoreIndexedOp,
+    pub rs: Register,
+    pub ra: Register,
+    pub rb: Register,
+}
+
+/// stwcx.
+#[derive(Clone, Copy)]
+pub struct StoreConditional {
+    pub rs: Register,
+    pub ra: Register,
+    pub rb: Register,
+}
+
+/// mfcr, mfmsr, mtmsr, wrtee.
+#[derive(Clone, Copy)]
+pub struct Move {
+    pub op: MoveOp,
+    pub register: Register,
+}
+
+/// mtcrf, with a mask of eight condition fields.
+#[derive(Clone, Copy)]
+pub struct MoveToConditionFields {
+    pub mask: u32,
+    pub rs: Register,
+}
+
+/// mfspr, mtspr, with the number of the special purpose register.
+#[derive(Clone, Copy)]
+pub struct MoveSpecial {
+    pub op: SpecialOp,
+    pub register: Register,
+    pub number: u32,
+}
+
+/// tlbre, tlbwe, with the number of the word.
+#[derive(Clone, Copy)]
+pub struct TlbWord {
+    pub op: TlbWordOp,
+    pub register: Register,
+    pub ra: Register,
+    pub word: u32,
+}
+
+/// tlbsx, tlbsx.
+#[derive(Clone, Copy)]
+pub struct TlbSearch {
+    pub rt: Register,
+    pub ra: Register,
+    pub rb: Register,
+    pub rc: bool,
+}
+
+/// An instruction: one case for each format.
 #[derive(Clone, Copy)]
 pub enum Instruction {
-    /// addi, addis, addic, addic., subfic, mulli.
-    Immediate {
-        op: ImmediateOp,
-        rt: Register,
-        ra: Register,
-        immediate: u32,
-    },
-    /// andi., andis., ori, oris, xori, xoris.
-    LogicalImmediate {
-        op: LogicalImmediateOp,
-        ra: Register,
-        rs: Register,
-        immediate: u32,
-    },
-    /// cmpi, cmpli, into the condition field.
-    CompareImmediate {
-        comparison: Comparison,
-        field: u32,
-        ra: Register,
-        immediate: u32,
-    },
-    /// twi, with the conditions that trap.
-    TrapImmediate {
-        conditions: u32,
-        ra: Register,
-        immediate: u32,
-    },
-    /// lbz, lhz, lha, lwz, with u, x and ux.
-    Load {
-        op: LoadOp,
-        rt: Register,
-        ra: Register,
-        offset: Offset,
-        update: bool,
-    },
-    /// stb, sth, stw, with u, x and ux.
-    Store {
-        op: StoreOp,
-        rs: Register,
-        ra: Register,
-        offset: Offset,
-        update: bool,
-    },
-    /// b, with AA and LK; the displacement counts words.
-    Branch {
-        displacement: u32,
-        absolute: bool,
-        link: bool,
-    },
-    /// bc, with AA and LK; the displacement counts words.
-    BranchConditional {
-        options: u32,
-        bit: u32,
-        displacement: u32,
-        absolute: bool,
-        link: bool,
-    },
-    /// bclr, bcctr, with LK.
-    BranchRegister {
-        target: BranchTarget,
-        options: u32,
-        bit: u32,
-        link: bool,
-    },
+    Immediate(Immediate),
+    LogicalImmediate(LogicalImmediate),
+    CompareImmediate(CompareImmediate),
+    TrapImmediate(TrapImmediate),
+    Load(Load),
+    Store(Store),
+    Branch(Branch),
+    BranchConditional(BranchConditional),
+    BranchRegister(BranchRegister),
     /// sc.
     SystemCall,
-    /// rlwimi, rlwinm, rlwnm; the amount is a number, and a register's for rlwnm.
-    Rotate {
-        op: RotateOp,
-        ra: Register,
-        rs: Register,
-        amount: u32,
-        begin: u32,
-        end: u32,
-        record: bool,
-    },
-    /// crand, crandc, creqv, crnand, crnor, cror, crorc, crxor.
-    ConditionLogical {
-        op: ConditionOp,
-        target: u32,
-        first: u32,
-        second: u32,
-    },
-    /// mcrf.
-    MoveConditionField {
-        to: u32,
-        from: u32,
-    },
+    Rotate(Rotate),
+    ConditionLogical(ConditionLogical),
+    MoveConditionField(MoveConditionField),
     /// rfi, isync, msync, tlbsync.
-    Bare {
-        op: BareOp,
-    },
-    /// add, addc, adde, subf, subfc, subfe, mullw, divw, divwu, with OE and Rc.
-    Arithmetic {
-        op: ArithmeticOp,
-        rt: Register,
-        ra: Register,
-        rb: Register,
-        overflow: bool,
-        record: bool,
-    },
-    /// addme, addze, subfme, subfze, neg, with OE and Rc.
-    ArithmeticUnary {
-        op: ArithmeticUnaryOp,
-        rt: Register,
-        ra: Register,
-        overflow: bool,
-        record: bool,
-    },
-    /// mulhw, mulhwu, with Rc.
-    MultiplyHigh {
-        op: MultiplyHighOp,
-        rt: Register,
-        ra: Register,
-        rb: Register,
-        record: bool,
-    },
-    /// and, andc, nand, or, orc, nor, xor, eqv, slw, srw, sraw, with Rc.
-    Logical {
-        op: LogicalOp,
-        ra: Register,
-        rs: Register,
-        rb: Register,
-        record: bool,
-    },
-    /// extsb, extsh, cntlzw, with Rc.
-    LogicalUnary {
-        op: LogicalUnaryOp,
-        ra: Register,
-        rs: Register,
-        record: bool,
-    },
-    /// srawi, with Rc.
-    ShiftRightImmediate {
-        ra: Register,
-        rs: Register,
-        amount: u32,
-        record: bool,
-    },
-    /// isel, by a bit of the condition register.
-    Select {
-        rt: Register,
-        ra: Register,
-        rb: Register,
-        bit: u32,
-    },
-    /// cmp, cmpl, into the condition field.
-    Compare {
-        comparison: Comparison,
-        field: u32,
-        ra: Register,
-        rb: Register,
-    },
-    /// tw, with the conditions that trap.
-    Trap {
-        conditions: u32,
-        ra: Register,
-        rb: Register,
-    },
-    /// lhbrx, lwbrx, lwarx.
-    LoadIndexed {
-        op: LoadIndexedOp,
-        rt: Register,
-        ra: Register,
-        rb: Register,
-    },
-    /// sthbrx, stwbrx.
-    StoreIndexed {
-        op: StoreIndexedOp,
-        rs: Register,
-        ra: Register,
-        rb: Register,
-    },
-    /// stwcx.
-    StoreConditional {
-        rs: Register,
-        ra: Register,
-        rb: Register,
-    },
+    Bare { op: BareOp },
+    Arithmetic(Arithmetic),
+    ArithmeticUnary(ArithmeticUnary),
+    MultiplyHigh(MultiplyHigh),
+    Logical(Logical),
+    LogicalUnary(LogicalUnary),
+    ShiftRightImmediate(ShiftRightImmediate),
+    Select(Select),
+    Compare(Compare),
+    Trap(Trap),
+    LoadIndexed(LoadIndexed),
+    StoreIndexed(StoreIndexed),
+    StoreConditional(StoreConditional),
     /// mcrxr.
-    MoveFromXer {
-        field: u32,
-    },
-    /// mfcr, mfmsr, mtmsr, wrtee.
-    Move {
-        op: MoveOp,
-        register: Register,
-    },
+    MoveFromXer { field: u32 },
+    Move(Move),
     /// wrteei.
-    WriteExternalEnable {
-        enable: bool,
-    },
-    /// mtcrf, with a mask of eight condition fields.
-    MoveToConditionFields {
-        mask: u32,
-        rs: Register,
-    },
-    /// mfspr, mtspr, with the number of the special purpose register.
-    MoveSpecial {
-        op: SpecialOp,
-        register: Register,
-        number: u32,
-    },
-    /// tlbre, tlbwe, with the number of the word.
-    TlbWord {
-        op: TlbWordOp,
-        register: Register,
-        ra: Register,
-        word: u32,
-    },
-    /// tlbsx, tlbsx.
-    TlbSearch {
-        rt: Register,
-        ra: Register,
-        rb: Register,
-        record: bool,
-    },
+    WriteExternalEnable { enable: bool },
+    MoveToConditionFields(MoveToConditionFields),
+    MoveSpecial(MoveSpecial),
+    TlbWord(TlbWord),
+    TlbSearch(TlbSearch),
     /// mbar, with its field, which has no effect.
-    Barrier {
-        ordering: u32,
-    },
+    Barrier { ordering: u32 },
 }
