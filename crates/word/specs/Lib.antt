@@ -1,0 +1,5 @@
+pub mod Conditions
+pub mod Products
+pub mod Shifts
+pub mod Sums
+pub mod Words

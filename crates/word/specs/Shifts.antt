@@ -1,0 +1,36 @@
+-- Rotations, masks and shifts; bit 0 is the leftmost. Assumes nothing.
+use mathlib.Core.Bool.{Bool, true, false, cond, not, _&&_, _||_}
+use Prim.Native.Nat.{ℕ, zero, suc, _+_, _-_, _*_, _/_, _%_, _^_}
+use lib.Dec.{eqb, leb, ltb}
+use Rattle.word.specs.declared.shift.Shifted.{Shifted}
+use Rattle.word.specs.Words.{wrap, bit, negative, inverted}
+
+-- n places to the left; what leaves on the left comes in on the right
+unfoldable pub rotated : ℕ → ℕ → ℕ
+rotated x n = wrap (x * 2 ^ n) + x / 2 ^ (32 - n)
+
+-- a bit lies from begin to end, round the end of the word where begin is the greater
+abbrev pub between : ℕ → ℕ → ℕ → Bool
+between begin end k = cond (leb begin end) (leb begin k && leb k end) (leb begin k || leb k end)
+
+-- the word whose bits, from bit 0 to bit n - 1, are those that a test takes: and zeros after them
+abbrev pub ones-where : (ℕ → Bool) → ℕ → ℕ
+ones-where t zero = 0
+ones-where t (suc n) = ones-where t n + bit (t n) * 2 ^ (31 - n)
+
+-- MASK(begin, end)
+unfoldable pub mask : ℕ → ℕ → ℕ
+mask begin end = ones-where (between begin end) 32
+
+abbrev pub shifted-left : ℕ → ℕ → ℕ
+shifted-left x n = cond (ltb n 32) (wrap (x * 2 ^ n)) 0
+
+abbrev pub shifted-right : ℕ → ℕ → ℕ
+shifted-right x n = cond (ltb n 32) (x / 2 ^ n) 0
+
+-- the sign comes in on the left; the carry tells that a one left a negative word on the right
+abbrev pub shifted-algebraic : ℕ → ℕ → Shifted
+shifted-algebraic x n = record {
+  value = cond (negative x) (inverted (shifted-right (inverted x) n)) (shifted-right x n);
+  carry = negative x && (leb 32 n || not (eqb (x % 2 ^ n) 0));
+}
