@@ -10,7 +10,7 @@ use lib.Dec.{leb}
 use lib.ListN.{getD}
 use Rattle.std.specs.Iters.{counting}
 use Rattle.std.proofs.shelf.Counted.{getD-map-counting}
-use Rattle.word.specs.Shifts.{mask}
+use Rattle.word.specs.Shifts.{between, ones-where}
 
 -- two functions that agree on a list of numbers agree on each of them
 pub agree : (f g : ℕ → ℕ) (n : ℕ) → map f (counting 0 n) ≡ map g (counting 0 n) → (k : ℕ) → k < n → f k ≡ g k
@@ -21,12 +21,11 @@ abbrev by-shifts : ℕ → ℕ → ℕ
 by-shifts b e =
     cond (leb b e) (bitAnd (0xFFFFFFFF / 2 ^ b) (0xFFFFFFFF * 2 ^ (31 - e) % 2 ^ 32)) (bitOr (0xFFFFFFFF / 2 ^ b) (0xFFFFFFFF * 2 ^ (31 - e) % 2 ^ 32))
 
-pub mask-by-shifts : (b e : ℕ) → b < 32 → e < 32 → by-shifts b e ≡ mask b e
-unfolding mask
+pub mask-by-shifts : (b e : ℕ) → b < 32 → e < 32 → by-shifts b e ≡ ones-where (between b e) 32
 mask-by-shifts b e hb he =
     let n : ℕ = b * 32 + e in
     let lt : n < 1024 = omega arith in
     let hi : n / 32 ≡ b = omega arith in
     let lo : n % 32 ≡ e = omega arith in
-    let all : by-shifts (n / 32) (n % 32) ≡ mask (n / 32) (n % 32) = agree (λ k. by-shifts (k / 32) (k % 32)) (λ k. mask (k / 32) (k % 32)) 1024 refl n lt in
+    let all : by-shifts (n / 32) (n % 32) ≡ ones-where (between (n / 32) (n % 32)) 32 = agree (λ k. by-shifts (k / 32) (k % 32)) (λ k. ones-where (between (k / 32) (k % 32)) 32) 1024 refl n lt in
     simp (hi, lo) at all

@@ -5,7 +5,7 @@ use native.Mathlib.Nat.{mul-mod-left}
 use native.Mathlib.Omega.{arith}
 use lib.Bits.{bitOr, or-self, or-shifted}
 use Rattle.std.proofs.shelf.Bits.{mod-pow-add, shl-shr, shr-below}
-use Rattle.word.specs.Shifts.{rotated}
+use Rattle.word.specs.Shifts.{turned}
 
 -- what stays of a word moved n of n + m places
 stays : (x n m : ℕ) → x * 2 ^ n % 2 ^ (m + n) ≡ x % 2 ^ m * 2 ^ n
@@ -18,8 +18,7 @@ stays x n m =
 parts : (x n m : ℕ) → x < 2 ^ (n + m) → bitOr (x * 2 ^ n % 2 ^ (m + n)) (x / 2 ^ m) ≡ x * 2 ^ n % 2 ^ (m + n) + x / 2 ^ m
 parts x n m h = let e = stays x n m in simp e (or-shifted (x % 2 ^ m) n (x / 2 ^ m) (shr-below x n m h))
 
-pub rotated-by-shifts : (x n : ℕ) → x < 2 ^ 32 → n < 32 → bitOr ((x * 2 ^ n) % 2 ^ 32) (x / 2 ^ ((32 - n) % 32)) ≡ rotated x n
-unfolding rotated
+pub rotated-by-shifts : (x n : ℕ) → x < 2 ^ 32 → n < 32 → bitOr ((x * 2 ^ n) % 2 ^ 32) (x / 2 ^ ((32 - n) % 32)) ≡ turned x n
 rotated-by-shifts x zero hx hn =
     let a : x * 1 % 2 ^ 32 ≡ x = omega arith in
     let b : x / 1 ≡ x = omega arith in

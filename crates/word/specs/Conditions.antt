@@ -21,17 +21,20 @@ traps to a b =
     || ((eqb (to / 2 % 2) 1 && eqb (relation a b) 8)
     || (eqb (to % 2) 1 && eqb (relation a b) 4))))
 
+-- a field by the low three bits of its number, and with another value of four bits
 abbrev pub field-at : ℕ → ℕ → ℕ
-field-at cr k = cr / 2 ^ (28 - 4 * k) % 16
+field-at cr k = cr / 2 ^ (28 - 4 * (k % 8)) % 16
 
 abbrev pub with-field : ℕ → ℕ → ℕ → ℕ
-with-field cr k v = bitOr (bitAnd cr (inverted (wrap (15 * 2 ^ (28 - 4 * k))))) (wrap (v * 2 ^ (28 - 4 * k)))
+with-field cr k v =
+    bitOr (bitAnd cr (inverted (wrap (15 * 2 ^ (28 - 4 * (k % 8)))))) (wrap (v % 16 * 2 ^ (28 - 4 * (k % 8))))
 
+-- a bit by the low five bits of its number, and with another value
 abbrev pub bit-at : ℕ → ℕ → Bool
-bit-at cr k = eqb (cr / 2 ^ (31 - k) % 2) 1
+bit-at cr k = eqb (cr / 2 ^ (31 - k % 32) % 2) 1
 
 abbrev pub with-bit : ℕ → ℕ → Bool → ℕ
-with-bit cr k v = bitOr (bitAnd cr (inverted (wrap (1 * 2 ^ (31 - k))))) (wrap (bit v * 2 ^ (31 - k)))
+with-bit cr k v = bitOr (bitAnd cr (inverted (wrap (1 * 2 ^ (31 - k % 32))))) (wrap (bit v * 2 ^ (31 - k % 32)))
 
 -- the bits of the fields that a mask of eight bits names
 abbrev pub field-mask : ℕ → ℕ

@@ -2,12 +2,12 @@
 use mathlib.Core.Bool.{Bool, true, false, _||_}
 use Prim.Native.Nat.{ℕ, _+_, _^_}
 use lib.Dec.{leb, ltb}
-use Rattle.word.specs.declared.arithmetic.Sum.{Sum}
+use Rattle.word.specs.declared.arithmetic.Outcome.{Outcome}
 use Rattle.word.specs.Words.{wrap, bit, biased}
 
 -- the carry out: the exact sum is above 2^32 - 1. The overflow: the exact signed sum is below -2^31 or above 2^31 - 1,
 -- and biased that is below 2^31 or at least 3 * 2^31
-abbrev pub added : ℕ → ℕ → Bool → Sum
+abbrev pub added : ℕ → ℕ → Bool → Outcome
 added a b c = record {
   value = wrap (a + b + bit c);
   carry = leb (2 ^ 32) (a + b + bit c);

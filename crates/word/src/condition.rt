@@ -40,14 +40,14 @@ pub fn traps(conditions: u32, a: u32, b: u32) -> bool
 
 /// A field of the condition register, by the low three bits of its number.
 pub fn field(cr: u32, number: u32) -> u32
-    ensures { λ r. ⌜ r ≡ field-at cr (number % 8) ⌝ }
+    ensures { λ r. ⌜ r ≡ field-at cr number ⌝ }
 {
     (cr >> (28 - 4 * (number % 8))) % 16
 }
 
 /// The condition register with one field set to the low four bits of a value.
 pub fn with_field(cr: u32, number: u32, value: u32) -> u32
-    ensures { λ r. ⌜ r ≡ with-field cr (number % 8) (value % 16) ⌝ }
+    ensures { λ r. ⌜ r ≡ with-field cr number value ⌝ }
 {
     let place = 28 - 4 * (number % 8);
     cr & (0xFFFF_FFFF - (15 << place)) | ((value % 16) << place)
@@ -55,14 +55,14 @@ pub fn with_field(cr: u32, number: u32, value: u32) -> u32
 
 /// A bit of the condition register, by the low five bits of its number.
 pub fn bit(cr: u32, number: u32) -> bool
-    ensures { λ r. ⌜ r ≡ bit-at cr (number % 32) ⌝ }
+    ensures { λ r. ⌜ r ≡ bit-at cr number ⌝ }
 {
     (cr >> (31 - number % 32)) % 2 == 1
 }
 
 /// The condition register with one bit set to a value.
 pub fn with_bit(cr: u32, number: u32, value: bool) -> u32
-    ensures { λ r. ⌜ r ≡ with-bit cr (number % 32) value ⌝ }
+    ensures { λ r. ⌜ r ≡ with-bit cr number value ⌝ }
 {
     let place = 31 - number % 32;
     cr & (0xFFFF_FFFF - (1 << place)) | ((value as u32) << place)

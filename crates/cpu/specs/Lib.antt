@@ -1,0 +1,10 @@
+pub mod Branches
+pub mod Deeds
+pub mod Effects
+pub mod Fields
+pub mod Integer
+pub mod Known
+pub mod Memory
+pub mod Operations
+pub mod Registers
+pub mod Specials

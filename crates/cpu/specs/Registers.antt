@@ -1,0 +1,53 @@
+-- The working registers with one of them changed. Assumes nothing.
+use mathlib.Core.Bool.{Bool, true, false, cond, _||_}
+use Prim.Native.Nat.{ℕ, _+_, _*_, _/_, _%_, _^_}
+use lib.Dec.{eqb}
+use lib.ListN.{getD, set}
+use Rattle.word.specs.Words.{wrap, bit}
+use Rattle.cpu.specs.declared.registers.Working.{Working}
+use Rattle.cpu.specs.declared.registers.Xer.{Xer}
+
+abbrev pub gpr-of : Working → ℕ → ℕ
+gpr-of w k = getD (w .gpr) k 0
+
+-- a base register: register 0 stands for zero
+abbrev pub base-of : Working → ℕ → ℕ
+base-of w ra = cond (eqb ra 0) 0 (gpr-of w ra)
+
+abbrev pub with-gpr : Working → ℕ → ℕ → Working
+with-gpr w k v = record { gpr = set (w .gpr) k v; cr = w .cr; xer = w .xer; lr = w .lr; ctr = w .ctr; usprg0 = w .usprg0; pc = w .pc; reserved = w .reserved }
+
+abbrev pub with-cr : Working → ℕ → Working
+with-cr w v = record { gpr = w .gpr; cr = v; xer = w .xer; lr = w .lr; ctr = w .ctr; usprg0 = w .usprg0; pc = w .pc; reserved = w .reserved }
+
+abbrev pub with-xer : Working → Xer → Working
+with-xer w v = record { gpr = w .gpr; cr = w .cr; xer = v; lr = w .lr; ctr = w .ctr; usprg0 = w .usprg0; pc = w .pc; reserved = w .reserved }
+
+abbrev pub with-lr : Working → ℕ → Working
+with-lr w v = record { gpr = w .gpr; cr = w .cr; xer = w .xer; lr = v; ctr = w .ctr; usprg0 = w .usprg0; pc = w .pc; reserved = w .reserved }
+
+abbrev pub with-ctr : Working → ℕ → Working
+with-ctr w v = record { gpr = w .gpr; cr = w .cr; xer = w .xer; lr = w .lr; ctr = v; usprg0 = w .usprg0; pc = w .pc; reserved = w .reserved }
+
+abbrev pub with-usprg0 : Working → ℕ → Working
+with-usprg0 w v = record { gpr = w .gpr; cr = w .cr; xer = w .xer; lr = w .lr; ctr = w .ctr; usprg0 = v; pc = w .pc; reserved = w .reserved }
+
+abbrev pub with-pc : Working → ℕ → Working
+with-pc w v = record { gpr = w .gpr; cr = w .cr; xer = w .xer; lr = w .lr; ctr = w .ctr; usprg0 = w .usprg0; pc = v; reserved = w .reserved }
+
+abbrev pub with-reserved : Working → Bool → Working
+with-reserved w v = record { gpr = w .gpr; cr = w .cr; xer = w .xer; lr = w .lr; ctr = w .ctr; usprg0 = w .usprg0; pc = w .pc; reserved = v }
+
+-- the next instruction's address, which wraps
+abbrev pub after : Working → ℕ
+after w = wrap (w .pc + 4)
+
+abbrev pub next : Working → Working
+next w = with-pc w (after w)
+
+-- XER as a word: SO, OV and CA are its three leftmost bits, the count its seven rightmost
+abbrev pub xer-word : Xer → ℕ
+xer-word x = bit (x .so) * 0x80000000 + bit (x .ov) * 0x40000000 + bit (x .ca) * 0x20000000 + x .count % 128
+
+abbrev pub xer-from : ℕ → Xer
+xer-from v = record { so = eqb (v / 0x80000000 % 2) 1; ov = eqb (v / 0x40000000 % 2) 1; ca = eqb (v / 0x20000000 % 2) 1; count = v % 128 }

@@ -1,0 +1,10 @@
+//! The registers that user state works with, and what each instruction does to them.
+
+mod branch;
+mod conditions;
+pub mod deed;
+mod integer;
+mod memory;
+pub mod operation;
+pub mod registers;
+pub mod special;
