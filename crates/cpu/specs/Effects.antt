@@ -15,9 +15,7 @@ use Rattle.isa.specs.declared.instruction.SpecialOp.the-variants.{Mfspr, Mtspr}
 use Rattle.isa.specs.declared.instruction.TlbWordOp.{TlbWordOp}
 use Rattle.isa.specs.declared.instruction.TlbWordOp.the-variants.{Tlbre, Tlbwe}
 use Rattle.isa.specs.declared.instruction.StoreConditional.{StoreConditional as StoreConditionalFormat}
-use Rattle.isa.specs.declared.instruction.MoveSpecial.{MoveSpecial as MoveSpecialFormat}
-use Rattle.isa.specs.declared.instruction.TlbWord.{TlbWord as TlbWordFormat}
-use Rattle.isa.specs.declared.instruction.Move.{Move as MoveFormat}
+use Rattle.isa.specs.declared.instruction.TlbSearch.{TlbSearch as TlbSearchFormat}
 use Rattle.isa.specs.declared.instruction.Instruction.{Instruction}
 use Rattle.isa.specs.declared.instruction.Instruction.the-variants.{Immediate, LogicalImmediate, CompareImmediate, TrapImmediate, Load, Store, Branch, BranchConditional, BranchRegister, SystemCall, Rotate, ConditionLogical, MoveConditionField, Bare, Arithmetic, ArithmeticUnary, MultiplyHigh, Logical, LogicalUnary, ShiftRightImmediate, Select, Compare, Trap, LoadIndexed, StoreIndexed, StoreConditional, MoveFromXer, Move, WriteExternalEnable, MoveToConditionFields, MoveSpecial, TlbWord, TlbSearch, Barrier}
 use Rattle.word.specs.Words.{extended}
@@ -41,6 +39,9 @@ use Rattle.cpu.specs.Specials.{privileged-number, special-word, with-special}
 pub record Seen : Type 0 where
   pub working : Working
   pub shown : Shown
+
+abbrev pub seen-of : Working → Shown → Seen
+seen-of w v = record { working = w; shown = v }
 
 -- an instruction's effect: new registers; an access and the registers after it; or what the core has to turn into an
 -- interrupt or to carry out
@@ -103,45 +104,51 @@ abbrev pub tlb-word : TlbWordOp → ℕ → ℕ → ℕ → Working → Privileg
 tlb-word Tlbre r ra k w = deed.ReadEntry r (gpr-of w ra % 64) k
 tlb-word Tlbwe r ra k w = deed.WriteEntry (gpr-of w ra % 64) k (gpr-of w r)
 
+abbrev pub tlb-search : TlbSearchFormat → Working → PrivilegedDeed
+tlb-search i w = deed.SearchEntries (i .rt) (address-of w (i .ra) (Index (i .rb))) (i .rc)
+
 -- the effect of each instruction
+abbrev pub effected : Instruction → Working → Shown → Effect
+effected (Immediate i) w v = finish (next (immediate i w))
+effected (LogicalImmediate i) w v = finish (next (logical-immediate i w))
+effected (CompareImmediate i) w v = finish (next (compare-immediate i w))
+effected (TrapImmediate i) w v = trapping (traps (i .conditions) (gpr-of w (i .ra)) (extended 16 (i .immediate % 0x10000))) w
+effected (Load i) w v = loads (loading i w) w
+effected (Store i) w v = stores (storing i w) w
+effected (Branch i) w v = finish (branch i w)
+effected (BranchConditional i) w v = finish (branch-conditional i w)
+effected (BranchRegister i) w v = finish (branch-register i w)
+effected SystemCall w v = call
+effected (Rotate i) w v = finish (next (rotate i w))
+effected (ConditionLogical i) w v = finish (next (condition-logical i w))
+effected (MoveConditionField i) w v = finish (next (move-condition-field i w))
+effected (Bare op) w v = bare op w
+effected (Arithmetic i) w v = finish (next (arithmetic i w))
+effected (ArithmeticUnary i) w v = finish (next (arithmetic-unary i w))
+effected (MultiplyHigh i) w v = finish (next (multiply-high i w))
+effected (Logical i) w v = finish (next (logical i w))
+effected (LogicalUnary i) w v = finish (next (logical-unary i w))
+effected (ShiftRightImmediate i) w v = finish (next (shift-right-immediate i w))
+effected (Select i) w v = finish (next (select i w))
+effected (Compare i) w v = finish (next (compare i w))
+effected (Trap i) w v = trapping (traps (i .conditions) (gpr-of w (i .ra)) (gpr-of w (i .rb))) w
+effected (LoadIndexed i) w v = loads (loading-indexed i w) w
+effected (StoreIndexed i) w v = stores (storing-indexed i w) w
+effected (StoreConditional i) w v = store-conditional i w
+effected (MoveFromXer field) w v = finish (next (move-from-xer field w))
+effected (Move i) w v = move (i .op) (i .register) w
+effected (WriteExternalEnable e) w v = privileged (deed.WriteExternalEnable e)
+effected (MoveToConditionFields i) w v = finish (next (move-to-condition-fields i w))
+effected (MoveSpecial i) w v = move-special (i .op) (i .register) (i .number) w v
+effected (TlbWord i) w v = privileged (tlb-word (i .op) (i .register) (i .ra) (i .word) w)
+effected (TlbSearch i) w v = privileged (tlb-search i w)
+effected (Barrier o) w v = finish (next w)
+
 unfoldable pub effect : Instruction → Seen → Effect
-effect (Immediate i) s = finish (next (immediate i (s .working)))
-effect (LogicalImmediate i) s = finish (next (logical-immediate i (s .working)))
-effect (CompareImmediate i) s = finish (next (compare-immediate i (s .working)))
-effect (TrapImmediate i) s = trapping (traps (i .conditions) (gpr-of (s .working) (i .ra)) (extended 16 (i .immediate % 0x10000))) (s .working)
-effect (Load i) s = loads (loading i (s .working)) (s .working)
-effect (Store i) s = stores (storing i (s .working)) (s .working)
-effect (Branch i) s = finish (branch i (s .working))
-effect (BranchConditional i) s = finish (branch-conditional i (s .working))
-effect (BranchRegister i) s = finish (branch-register i (s .working))
-effect SystemCall s = call
-effect (Rotate i) s = finish (next (rotate i (s .working)))
-effect (ConditionLogical i) s = finish (next (condition-logical i (s .working)))
-effect (MoveConditionField i) s = finish (next (move-condition-field i (s .working)))
-effect (Bare op) s = bare op (s .working)
-effect (Arithmetic i) s = finish (next (arithmetic i (s .working)))
-effect (ArithmeticUnary i) s = finish (next (arithmetic-unary i (s .working)))
-effect (MultiplyHigh i) s = finish (next (multiply-high i (s .working)))
-effect (Logical i) s = finish (next (logical i (s .working)))
-effect (LogicalUnary i) s = finish (next (logical-unary i (s .working)))
-effect (ShiftRightImmediate i) s = finish (next (shift-right-immediate i (s .working)))
-effect (Select i) s = finish (next (select i (s .working)))
-effect (Compare i) s = finish (next (compare i (s .working)))
-effect (Trap i) s = trapping (traps (i .conditions) (gpr-of (s .working) (i .ra)) (gpr-of (s .working) (i .rb))) (s .working)
-effect (LoadIndexed i) s = loads (loading-indexed i (s .working)) (s .working)
-effect (StoreIndexed i) s = stores (storing-indexed i (s .working)) (s .working)
-effect (StoreConditional i) s = store-conditional i (s .working)
-effect (MoveFromXer field) s = finish (next (move-from-xer field (s .working)))
-effect (Move i) s = move (i .op) (i .register) (s .working)
-effect (WriteExternalEnable e) s = privileged (deed.WriteExternalEnable e)
-effect (MoveToConditionFields i) s = finish (next (move-to-condition-fields i (s .working)))
-effect (MoveSpecial i) s = move-special (i .op) (i .register) (i .number) (s .working) (s .shown)
-effect (TlbWord i) s = privileged (tlb-word (i .op) (i .register) (i .ra) (i .word) (s .working))
-effect (TlbSearch i) s = privileged (deed.SearchEntries (i .rt) (address-of (s .working) (i .ra) (Index (i .rb))) (i .rc))
-effect (Barrier o) s = finish (next (s .working))
+effect i s = effected i (s .working) (s .shown)
 
 -- what is left to do, over registers that had their part, as an effect
-unfoldable pub effect-of : Deed → Working → Effect
+abbrev pub effect-of : Deed → Working → Effect
 effect-of left.Finished w = finish w
 effect-of (left.Load l) w = loads l w
 effect-of (left.Store s) w = stores s w

@@ -6,5 +6,6 @@ pub mod deed;
 mod integer;
 mod memory;
 pub mod operation;
+mod perform;
 pub mod registers;
 pub mod special;
