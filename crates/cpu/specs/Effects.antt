@@ -32,7 +32,7 @@ use Rattle.cpu.specs.Registers.{gpr-of, next, with-gpr}
 use Rattle.cpu.specs.Integer.{immediate, logical-immediate, arithmetic, arithmetic-unary, multiply-high, logical, logical-unary, shift-right-immediate, rotate, select, compare, compare-immediate}
 use Rattle.cpu.specs.Branches.{branch, branch-conditional, branch-register}
 use Rattle.cpu.specs.Fields.{condition-logical, move-condition-field, move-from-xer, move-to-condition-fields, move-from-condition}
-use Rattle.cpu.specs.Memory.{address-of, loading, loading-indexed, received, storing, storing-indexed, storing-conditional, settled, stored, LoadingInRange, StoringInRange}
+use Rattle.cpu.specs.Memory.{address-of, loading, loading-indexed, received, storing, storing-indexed, storing-conditional, settled, stored}
 use Rattle.cpu.specs.Specials.{privileged-number, special-word, with-special}
 
 -- what user state sees of the registers
@@ -158,26 +158,13 @@ effect-of left.Call w = call
 effect-of left.Illegal w = illegal
 effect-of (left.Privileged d) w = privileged d
 
--- the numbers of a privileged deed are in range
-abbrev pub PrivilegedInRange : PrivilegedDeed → Type 0
-PrivilegedInRange (deed.ReadMsr rt) = rt < 32
-PrivilegedInRange (deed.WriteMsr x) = Unit {0}
-PrivilegedInRange (deed.WriteExternalEnable e) = Unit {0}
-PrivilegedInRange deed.Return = Unit {0}
-PrivilegedInRange (deed.ReadSpecial rt n) = rt < 32
-PrivilegedInRange (deed.WriteSpecial n x) = Unit {0}
-PrivilegedInRange (deed.ReadEntry rt e k) = (rt < 32) × (e < 64) × (k < 3)
-PrivilegedInRange (deed.WriteEntry e k x) = (e < 64) × (k < 3)
-PrivilegedInRange (deed.SearchEntries rt a rc) = rt < 32
-PrivilegedInRange deed.Synchronize = Unit {0}
-
--- where something is left to do no register is altered yet, and the numbers that it names are in range
+-- where something is left to do no register is altered yet
 abbrev pub Waits : Deed → Working → Working → Type 0
 Waits left.Finished u w = Unit {0}
-Waits (left.Load l) u w = (w ≡ u) × LoadingInRange l
-Waits (left.Store s) u w = (w ≡ u) × StoringInRange s
+Waits (left.Load l) u w = w ≡ u
+Waits (left.Store s) u w = w ≡ u
 Waits (left.Probe a) u w = w ≡ u
 Waits left.Trap u w = w ≡ u
 Waits left.Call u w = w ≡ u
 Waits left.Illegal u w = w ≡ u
-Waits (left.Privileged d) u w = (w ≡ u) × PrivilegedInRange d
+Waits (left.Privileged d) u w = w ≡ u

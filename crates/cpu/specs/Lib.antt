@@ -1,4 +1,5 @@
 pub mod Branches
+pub mod Counter
 pub mod Deeds
 pub mod Effects
 pub mod Fields

@@ -159,14 +159,3 @@ settled stored w = next (with-reserved (with-cr w (with-field (w .cr) 0 (bit sto
 -- a store's end
 unfoldable pub stored : Storing → Working → Working
 stored s w = cond (s .conditional) (settled true w) (next (updated (s .update) (s .address) w))
-
--- a width that a load or store has, and a register that there is
-abbrev pub UpdateInRange : Option ℕ → Type 0
-UpdateInRange None = Unit {0}
-UpdateInRange (Some ra) = ra < 32
-
-abbrev pub LoadingInRange : Loading → Type 0
-LoadingInRange l = (l .rt < 32) × UpdateInRange (l .update) × (0 < l .width)
-
-abbrev pub StoringInRange : Storing → Type 0
-StoringInRange s = UpdateInRange (s .update) × (0 < s .width)

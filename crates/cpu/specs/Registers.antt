@@ -7,15 +7,16 @@ use Rattle.word.specs.Words.{wrap, bit}
 use Rattle.cpu.specs.declared.registers.Working.{Working}
 use Rattle.cpu.specs.declared.registers.Xer.{Xer}
 
+-- a register by the low five bits of its number
 abbrev pub gpr-of : Working → ℕ → ℕ
-gpr-of w k = getD (w .gpr) k 0
+gpr-of w k = getD (w .gpr) (k % 32) 0
 
 -- a base register: register 0 stands for zero
 abbrev pub base-of : Working → ℕ → ℕ
 base-of w ra = cond (eqb ra 0) 0 (gpr-of w ra)
 
 abbrev pub with-gpr : Working → ℕ → ℕ → Working
-with-gpr w k v = record { gpr = set (w .gpr) k v; cr = w .cr; xer = w .xer; lr = w .lr; ctr = w .ctr; usprg0 = w .usprg0; pc = w .pc; reserved = w .reserved }
+with-gpr w k v = record { gpr = set (w .gpr) (k % 32) v; cr = w .cr; xer = w .xer; lr = w .lr; ctr = w .ctr; usprg0 = w .usprg0; pc = w .pc; reserved = w .reserved }
 
 abbrev pub with-cr : Working → ℕ → Working
 with-cr w v = record { gpr = w .gpr; cr = v; xer = w .xer; lr = w .lr; ctr = w .ctr; usprg0 = w .usprg0; pc = w .pc; reserved = w .reserved }

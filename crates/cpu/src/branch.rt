@@ -44,10 +44,9 @@ impl Working {
 
     /// b.
     pub(crate) fn branch(&mut self, i: Branch) -> Deed
-        requires { ⌜ i .displacement < 0x1000000 ⌝ }
         ensures { λ r. ⌜ Finishes r (now (self .exit)) (branch i (now (self .entry))) ⌝ }
     {
-        let target = self.aim(i.absolute, extend_26(i.displacement * 4));
+        let target = self.aim(i.absolute, extend_26(i.displacement.wrapping_mul(4)));
         self.link(i.link);
         self.pc = target;
         Deed::Finished
@@ -92,10 +91,9 @@ impl Working {
 
     /// bc.
     pub(crate) fn branch_conditional(&mut self, i: BranchConditional) -> Deed
-        requires { ⌜ i .displacement < 0x4000 ⌝ }
         ensures { λ r. ⌜ Finishes r (now (self .exit)) (branch-conditional i (now (self .entry))) ⌝ }
     {
-        let target = self.aim(i.absolute, extend_half(i.displacement * 4));
+        let target = self.aim(i.absolute, extend_half(i.displacement.wrapping_mul(4)));
         self.resolve(i.options, i.bit, i.link, target)
     }
 

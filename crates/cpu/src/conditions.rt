@@ -78,7 +78,6 @@ impl Working {
 
     /// mtcrf.
     pub(crate) fn move_to_condition_fields(&mut self, i: MoveToConditionFields) -> Deed
-        requires { ⌜ i .rs < 32 ⌝ }
         ensures { λ r. ⌜ Finishes r (now (self .exit)) (next (move-to-condition-fields i (now (self .entry)))) ⌝ }
     {
         self.cr = condition::merge(self.cr, self.word(i.rs), condition::field_mask(i.mask));
@@ -87,10 +86,9 @@ impl Working {
 
     /// mfcr.
     pub(crate) fn move_from_condition(&mut self, rt: Register) -> Deed
-        requires { ⌜ rt < 32 ⌝ }
         ensures { λ r. ⌜ Finishes r (now (self .exit)) (next (move-from-condition rt (now (self .entry)))) ⌝ }
     {
-        self.gpr[rt as usize] = self.cr;
+        self.set_word(rt, self.cr);
         self.proceed()
     }
 }

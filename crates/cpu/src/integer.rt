@@ -1,7 +1,7 @@
 //! The integer instructions on the working registers.
 ghost use mathlib.Core.Path.{_≡_};
 ghost use Prim.Native.Nat.{ℕ, _<_};
-ghost use Rattle.cpu.specs.Registers.{gpr-of, base-of, next};
+ghost use Rattle.cpu.specs.Registers.{gpr-of, base-of, with-gpr, next};
 ghost use Rattle.cpu.specs.Deeds.{Finishes};
 ghost use Rattle.cpu.specs.Integer.{xer-after, with-cr0, completed, immediate, immediate-operand, immediate-records, logical-immediate, logical-immediate-records, arithmetic, arithmetic-unary, multiply-high, logical, logical-unary, shift-right-immediate, rotate, rotate-amount, select, compared, with-comparison, compare, comparand, compare-immediate};
 use crate::deed::Deed;
@@ -53,17 +53,22 @@ impl Xer {
 }
 
 impl Working {
-    /// A register's word.
-    pub(crate) fn word(&self, number: Register) -> u32
-        requires { ⌜ number < 32 ⌝ }
+    /// The word of a register, named by the low five bits of a number.
+    pub fn word(&self, number: Register) -> u32
         ensures { λ r. ⌜ r ≡ gpr-of (now (self .entry)) number ⌝ }
     {
-        self.gpr[number as usize]
+        self.gpr[(number % 32) as usize]
+    }
+
+    /// A word to a register, named by the low five bits of a number.
+    pub fn set_word(&mut self, number: Register, value: u32)
+        ensures { λ _. ⌜ now (self .exit) ≡ with-gpr (now (self .entry)) number value ⌝ }
+    {
+        self.gpr[(number % 32) as usize] = value;
     }
 
     /// A base register's word: zero for register 0.
     pub(crate) fn base(&self, number: Register) -> u32
-        requires { ⌜ number < 32 ⌝ }
         ensures { λ r. ⌜ r ≡ base-of (now (self .entry)) number ⌝ }
     {
         if number == 0 { 0 } else { self.word(number) }
@@ -94,11 +99,10 @@ impl Working {
 
     /// An outcome to its register, to XER and, with Rc, to condition field 0.
     fn complete(&mut self, target: Register, outcome: Outcome, oe: bool, rc: bool)
-        requires { ⌜ target < 32 ⌝ }
         ensures { λ _. ⌜ now (self .exit) ≡ completed target outcome oe rc (now (self .entry)) ⌝ }
     {
         self.xer = self.xer.after(oe, outcome);
-        self.gpr[target as usize] = outcome.value;
+        self.set_word(target, outcome.value);
         if rc {
             self.record(outcome.value);
         }
@@ -106,7 +110,6 @@ impl Working {
 
     /// The operand of arithmetic with an immediate.
     fn immediate_operand(&self, op: ImmediateOp, ra: Register) -> u32
-        requires { ⌜ ra < 32 ⌝ }
         ensures { λ r. ⌜ r ≡ immediate-operand op (now (self .entry)) ra ⌝ }
     {
         match op {
@@ -121,7 +124,6 @@ impl Working {
 
     /// addi, addis, addic, addic., subfic, mulli.
     pub(crate) fn immediate(&mut self, i: Immediate) -> Deed
-        requires { ⌜ i .rt < 32 ⌝ ∗ ⌜ i .ra < 32 ⌝ }
         ensures { λ r. ⌜ Finishes r (now (self .exit)) (next (immediate i (now (self .entry)))) ⌝ }
     {
         let a = self.immediate_operand(i.op, i.ra);
@@ -132,7 +134,6 @@ impl Working {
 
     /// andi., andis., ori, oris, xori, xoris.
     pub(crate) fn logical_immediate(&mut self, i: LogicalImmediate) -> Deed
-        requires { ⌜ i .ra < 32 ⌝ ∗ ⌜ i .rs < 32 ⌝ }
         ensures { λ r. ⌜ Finishes r (now (self .exit)) (next (logical-immediate i (now (self .entry)))) ⌝ }
     {
         let value = logical_immediate_value(i.op, self.word(i.rs), i.immediate);
@@ -147,7 +148,6 @@ impl Working {
 
     /// add, addc, adde, subf, subfc, subfe, mullw, divw, divwu.
     pub(crate) fn arithmetic(&mut self, i: Arithmetic) -> Deed
-        requires { ⌜ i .rt < 32 ⌝ ∗ ⌜ i .ra < 32 ⌝ ∗ ⌜ i .rb < 32 ⌝ }
         ensures { λ r. ⌜ Finishes r (now (self .exit)) (next (arithmetic i (now (self .entry)))) ⌝ }
     {
         let outcome = arithmetic_outcome(i.op, self.word(i.ra), self.word(i.rb), self.xer.ca);
@@ -157,7 +157,6 @@ impl Working {
 
     /// addme, addze, subfme, subfze, neg.
     pub(crate) fn arithmetic_unary(&mut self, i: ArithmeticUnary) -> Deed
-        requires { ⌜ i .rt < 32 ⌝ ∗ ⌜ i .ra < 32 ⌝ }
         ensures { λ r. ⌜ Finishes r (now (self .exit)) (next (arithmetic-unary i (now (self .entry)))) ⌝ }
     {
         let outcome = arithmetic_unary_outcome(i.op, self.word(i.ra), self.xer.ca);
@@ -167,7 +166,6 @@ impl Working {
 
     /// mulhw, mulhwu.
     pub(crate) fn multiply_high(&mut self, i: MultiplyHigh) -> Deed
-        requires { ⌜ i .rt < 32 ⌝ ∗ ⌜ i .ra < 32 ⌝ ∗ ⌜ i .rb < 32 ⌝ }
         ensures { λ r. ⌜ Finishes r (now (self .exit)) (next (multiply-high i (now (self .entry)))) ⌝ }
     {
         let value = multiply_high_value(i.op, self.word(i.ra), self.word(i.rb));
@@ -177,7 +175,6 @@ impl Working {
 
     /// and, andc, nand, or, orc, nor, xor, eqv, slw, srw, sraw.
     pub(crate) fn logical(&mut self, i: Logical) -> Deed
-        requires { ⌜ i .ra < 32 ⌝ ∗ ⌜ i .rs < 32 ⌝ ∗ ⌜ i .rb < 32 ⌝ }
         ensures { λ r. ⌜ Finishes r (now (self .exit)) (next (logical i (now (self .entry)))) ⌝ }
     {
         let outcome = logical_outcome(i.op, self.word(i.rs), self.word(i.rb), self.xer.ca);
@@ -187,7 +184,6 @@ impl Working {
 
     /// extsb, extsh, cntlzw.
     pub(crate) fn logical_unary(&mut self, i: LogicalUnary) -> Deed
-        requires { ⌜ i .ra < 32 ⌝ ∗ ⌜ i .rs < 32 ⌝ }
         ensures { λ r. ⌜ Finishes r (now (self .exit)) (next (logical-unary i (now (self .entry)))) ⌝ }
     {
         let value = logical_unary_value(i.op, self.word(i.rs));
@@ -197,7 +193,6 @@ impl Working {
 
     /// srawi.
     pub(crate) fn shift_right_immediate(&mut self, i: ShiftRightImmediate) -> Deed
-        requires { ⌜ i .ra < 32 ⌝ ∗ ⌜ i .rs < 32 ⌝ }
         ensures { λ r. ⌜ Finishes r (now (self .exit)) (next (shift-right-immediate i (now (self .entry)))) ⌝ }
     {
         let outcome = shift::shift_algebraic(self.word(i.rs), i.amount);
@@ -207,7 +202,6 @@ impl Working {
 
     /// By how much a rotation rotates.
     fn rotate_amount(&self, op: RotateOp, amount: u32) -> u32
-        requires { ⌜ amount < 32 ⌝ }
         ensures { λ r. ⌜ r ≡ rotate-amount op (now (self .entry)) amount ⌝ }
     {
         match op {
@@ -219,7 +213,6 @@ impl Working {
 
     /// rlwimi, rlwinm, rlwnm.
     pub(crate) fn rotate(&mut self, i: Rotate) -> Deed
-        requires { ⌜ i .ra < 32 ⌝ ∗ ⌜ i .rs < 32 ⌝ ∗ ⌜ i .amount < 32 ⌝ }
         ensures { λ r. ⌜ Finishes r (now (self .exit)) (next (rotate i (now (self .entry)))) ⌝ }
     {
         let rotated = shift::rotate(self.word(i.rs), self.rotate_amount(i.op, i.amount));
@@ -231,7 +224,6 @@ impl Working {
 
     /// isel.
     pub(crate) fn select(&mut self, i: Select) -> Deed
-        requires { ⌜ i .rt < 32 ⌝ ∗ ⌜ i .ra < 32 ⌝ ∗ ⌜ i .rb < 32 ⌝ }
         ensures { λ r. ⌜ Finishes r (now (self .exit)) (next (select i (now (self .entry)))) ⌝ }
     {
         let value = if condition::bit(self.cr, i.bit) {
@@ -239,7 +231,7 @@ impl Working {
         } else {
             self.word(i.rb)
         };
-        self.gpr[i.rt as usize] = value;
+        self.set_word(i.rt, value);
         self.proceed()
     }
 
@@ -253,7 +245,6 @@ impl Working {
 
     /// cmp, cmpl.
     pub(crate) fn compare(&mut self, i: Compare) -> Deed
-        requires { ⌜ i .ra < 32 ⌝ ∗ ⌜ i .rb < 32 ⌝ }
         ensures { λ r. ⌜ Finishes r (now (self .exit)) (next (compare i (now (self .entry)))) ⌝ }
     {
         self.compare_into(i.comparison, i.field, self.word(i.ra), self.word(i.rb));
@@ -262,7 +253,6 @@ impl Working {
 
     /// cmpi, cmpli.
     pub(crate) fn compare_immediate(&mut self, i: CompareImmediate) -> Deed
-        requires { ⌜ i .ra < 32 ⌝ }
         ensures { λ r. ⌜ Finishes r (now (self .exit)) (next (compare-immediate i (now (self .entry)))) ⌝ }
     {
         self.compare_into(

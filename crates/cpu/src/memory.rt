@@ -1,8 +1,7 @@
 //! The loads and stores on the working registers.
 ghost use mathlib.Core.Path.{_≡_};
 ghost use Prim.Native.Nat.{ℕ, _<_};
-ghost use Rattle.isa.specs.Ranges.{OffsetInRange};
-ghost use Rattle.cpu.specs.Memory.{offset-of, address-of, updating, updated, load-width, load-conversion, converted, loading, indexed-width, indexed-conversion, reserves, loading-indexed, received, store-width, store-value, storing, indexed-store-width, indexed-store-value, storing-indexed, storing-conditional, settled, stored, UpdateInRange, LoadingInRange, StoringInRange};
+ghost use Rattle.cpu.specs.Memory.{offset-of, address-of, updating, updated, load-width, load-conversion, converted, loading, indexed-width, indexed-conversion, reserves, loading-indexed, received, store-width, store-value, storing, indexed-store-width, indexed-store-value, storing-indexed, storing-conditional, settled, stored};
 use crate::deed::Conversion;
 use crate::deed::Loading;
 use crate::deed::Storing;
@@ -25,15 +24,14 @@ use word::sign::reverse_half;
 
 /// The register that an update form gives the address.
 fn updating(update: bool, ra: Register) -> Option<Register>
-    requires { ⌜ ra < 32 ⌝ }
-    ensures { λ r. ⌜ r ≡ updating update ra ⌝ ∗ ⌜ UpdateInRange r ⌝ }
+    ensures { λ r. ⌜ r ≡ updating update ra ⌝ }
 {
     if update { Some(ra) } else { None }
 }
 
 /// The width of a load.
 fn load_width(op: LoadOp) -> u32
-    ensures { λ r. ⌜ r ≡ load-width op ⌝ ∗ ⌜ 0 < r ⌝ }
+    ensures { λ r. ⌜ r ≡ load-width op ⌝ }
 {
     match op {
         LoadOp::Lbz => 1,
@@ -45,7 +43,7 @@ fn load_width(op: LoadOp) -> u32
 
 /// The width of a load with an index only.
 fn indexed_width(op: LoadIndexedOp) -> u32
-    ensures { λ r. ⌜ r ≡ indexed-width op ⌝ ∗ ⌜ 0 < r ⌝ }
+    ensures { λ r. ⌜ r ≡ indexed-width op ⌝ }
 {
     match op {
         LoadIndexedOp::Lhbrx => 2,
@@ -86,7 +84,7 @@ fn reserves(op: LoadIndexedOp) -> bool
 
 /// The width of a store.
 fn store_width(op: StoreOp) -> u32
-    ensures { λ r. ⌜ r ≡ store-width op ⌝ ∗ ⌜ 0 < r ⌝ }
+    ensures { λ r. ⌜ r ≡ store-width op ⌝ }
 {
     match op {
         StoreOp::Stb => 1,
@@ -108,7 +106,7 @@ fn store_value(op: StoreOp, x: u32) -> u32
 
 /// The width of a store with an index only.
 fn indexed_store_width(op: StoreIndexedOp) -> u32
-    ensures { λ r. ⌜ r ≡ indexed-store-width op ⌝ ∗ ⌜ 0 < r ⌝ }
+    ensures { λ r. ⌜ r ≡ indexed-store-width op ⌝ }
 {
     match op {
         StoreIndexedOp::Sthbrx => 2,
@@ -143,7 +141,6 @@ impl Conversion {
 impl Working {
     /// What is added to a base.
     fn offset(&self, offset: Offset) -> u32
-        requires { ⌜ OffsetInRange offset ⌝ }
         ensures { λ r. ⌜ r ≡ offset-of (now (self .entry)) offset ⌝ }
     {
         match offset {
@@ -154,7 +151,6 @@ impl Working {
 
     /// An effective address.
     pub(crate) fn address(&self, ra: Register, offset: Offset) -> u32
-        requires { ⌜ ra < 32 ⌝ ∗ ⌜ OffsetInRange offset ⌝ }
         ensures { λ r. ⌜ r ≡ address-of (now (self .entry)) ra offset ⌝ }
     {
         self.base(ra).wrapping_add(self.offset(offset))
@@ -162,8 +158,7 @@ impl Working {
 
     /// The load of lbz, lhz, lha, lwz and their forms.
     pub(crate) fn loading(&self, i: Load) -> Loading
-        requires { ⌜ i .rt < 32 ⌝ ∗ ⌜ i .ra < 32 ⌝ ∗ ⌜ OffsetInRange (i .offset) ⌝ }
-        ensures { λ r. ⌜ r ≡ loading i (now (self .entry)) ⌝ ∗ ⌜ LoadingInRange r ⌝ }
+        ensures { λ r. ⌜ r ≡ loading i (now (self .entry)) ⌝ }
     {
         Loading {
             address: self.address(i.ra, i.offset),
@@ -177,8 +172,7 @@ impl Working {
 
     /// The load of lhbrx, lwbrx and lwarx.
     pub(crate) fn loading_indexed(&self, i: LoadIndexed) -> Loading
-        requires { ⌜ i .rt < 32 ⌝ ∗ ⌜ i .ra < 32 ⌝ ∗ ⌜ i .rb < 32 ⌝ }
-        ensures { λ r. ⌜ r ≡ loading-indexed i (now (self .entry)) ⌝ ∗ ⌜ LoadingInRange r ⌝ }
+        ensures { λ r. ⌜ r ≡ loading-indexed i (now (self .entry)) ⌝ }
     {
         Loading {
             address: self.address(i.ra, Offset::Index(i.rb)),
@@ -192,8 +186,7 @@ impl Working {
 
     /// The store of stb, sth, stw and their forms.
     pub(crate) fn storing(&self, i: Store) -> Storing
-        requires { ⌜ i .rs < 32 ⌝ ∗ ⌜ i .ra < 32 ⌝ ∗ ⌜ OffsetInRange (i .offset) ⌝ }
-        ensures { λ r. ⌜ r ≡ storing i (now (self .entry)) ⌝ ∗ ⌜ StoringInRange r ⌝ }
+        ensures { λ r. ⌜ r ≡ storing i (now (self .entry)) ⌝ }
     {
         Storing {
             address: self.address(i.ra, i.offset),
@@ -206,8 +199,7 @@ impl Working {
 
     /// The store of sthbrx and stwbrx.
     pub(crate) fn storing_indexed(&self, i: StoreIndexed) -> Storing
-        requires { ⌜ i .rs < 32 ⌝ ∗ ⌜ i .ra < 32 ⌝ ∗ ⌜ i .rb < 32 ⌝ }
-        ensures { λ r. ⌜ r ≡ storing-indexed i (now (self .entry)) ⌝ ∗ ⌜ StoringInRange r ⌝ }
+        ensures { λ r. ⌜ r ≡ storing-indexed i (now (self .entry)) ⌝ }
     {
         Storing {
             address: self.address(i.ra, Offset::Index(i.rb)),
@@ -220,8 +212,7 @@ impl Working {
 
     /// The store of stwcx.
     pub(crate) fn storing_conditional(&self, i: StoreConditional) -> Storing
-        requires { ⌜ i .rs < 32 ⌝ ∗ ⌜ i .ra < 32 ⌝ ∗ ⌜ i .rb < 32 ⌝ }
-        ensures { λ r. ⌜ r ≡ storing-conditional i (now (self .entry)) ⌝ ∗ ⌜ StoringInRange r ⌝ }
+        ensures { λ r. ⌜ r ≡ storing-conditional i (now (self .entry)) ⌝ }
     {
         Storing {
             address: self.address(i.ra, Offset::Index(i.rb)),
@@ -234,21 +225,19 @@ impl Working {
 
     /// The address to the base register of an update form.
     fn update(&mut self, register: Option<Register>, address: u32)
-        requires { ⌜ UpdateInRange register ⌝ }
         ensures { λ _. ⌜ now (self .exit) ≡ updated register address (now (self .entry)) ⌝ }
     {
         if let Some(ra) = register {
-            self.gpr[ra as usize] = address;
+            self.set_word(ra, address);
         }
     }
 
     /// A load's end, once its value is there.
     pub fn receive(&mut self, loading: Loading, value: u32)
-        requires { ⌜ LoadingInRange loading ⌝ }
         ensures { λ _. ⌜ now (self .exit) ≡ received loading value (now (self .entry)) ⌝ }
     {
         self.update(loading.update, loading.address);
-        self.gpr[loading.rt as usize] = loading.conversion.apply(value);
+        self.set_word(loading.rt, loading.conversion.apply(value));
         self.reserved = self.reserved || loading.reserve;
         self.advance();
     }
@@ -265,7 +254,6 @@ impl Working {
 
     /// A store's end, once it is made.
     pub fn conclude(&mut self, storing: Storing)
-        requires { ⌜ StoringInRange storing ⌝ }
         ensures { λ _. ⌜ now (self .exit) ≡ stored storing (now (self .entry)) ⌝ }
     {
         if storing.conditional {

@@ -1,8 +1,8 @@
 //! The register part of every instruction.
 ghost use mathlib.Core.Path.{_≡_};
 ghost use Prim.Native.Nat.{ℕ, _%_, _<_};
-ghost use Rattle.isa.specs.Ranges.{InRange};
-ghost use Rattle.cpu.specs.Effects.{seen-of, effected, effect, effect-of, tlb-search, store-conditional, trapping, bare, move, move-special, tlb-word, Waits, PrivilegedInRange};
+ghost use Rattle.cpu.specs.Counter.{Aligned};
+ghost use Rattle.cpu.specs.Effects.{seen-of, effected, effect, effect-of, tlb-search, store-conditional, trapping, bare, move, move-special, tlb-word, Waits};
 use crate::deed::Deed;
 use crate::deed::Privileged;
 use crate::registers::Shown;
@@ -33,7 +33,6 @@ impl Working {
 
     /// stwcx.: a store where the reservation is set, and otherwise only its translation.
     fn store_conditional(&self, i: StoreConditional) -> Deed
-        requires { ⌜ i .rs < 32 ⌝ ∗ ⌜ i .ra < 32 ⌝ ∗ ⌜ i .rb < 32 ⌝ }
         ensures same { λ r. ⌜ effect-of r (now (self .entry)) ≡ store-conditional i (now (self .entry)) ⌝ }
         ensures waits { λ r. ⌜ Waits r (now (self .entry)) (now (self .entry)) ⌝ }
     {
@@ -61,7 +60,6 @@ impl Working {
 
     /// mfcr, mfmsr, mtmsr, wrtee.
     fn move_register(&mut self, i: Move) -> Deed
-        requires { ⌜ i .register < 32 ⌝ }
         ensures same { λ r. ⌜ effect-of r (now (self .exit)) ≡ move (i .op) (i .register) (now (self .entry)) ⌝ }
         ensures waits { λ r. ⌜ Waits r (now (self .entry)) (now (self .exit)) ⌝ }
     {
@@ -78,7 +76,6 @@ impl Working {
 
     /// mfspr.
     fn move_from_special(&mut self, shown: &Shown, rt: u32, number: u32) -> Deed
-        requires { ⌜ rt < 32 ⌝ }
         ensures same { λ r. ⌜ effect-of r (now (self .exit)) ≡ move-special SpecialOp.Mfspr rt number (now (self .entry)) (now (shown .entry)) ⌝ }
         ensures waits { λ r. ⌜ Waits r (now (self .entry)) (now (self .exit)) ⌝ }
     {
@@ -87,7 +84,7 @@ impl Working {
         }
         match self.special(shown, number) {
             Some(value) => {
-                self.gpr[rt as usize] = value;
+                self.set_word(rt, value);
                 self.proceed()
             }
             None => Deed::Illegal,
@@ -96,7 +93,6 @@ impl Working {
 
     /// mtspr.
     fn move_to_special(&mut self, shown: &Shown, rs: u32, number: u32) -> Deed
-        requires { ⌜ rs < 32 ⌝ }
         ensures same { λ r. ⌜ effect-of r (now (self .exit)) ≡ move-special SpecialOp.Mtspr rs number (now (self .entry)) (now (shown .entry)) ⌝ }
         ensures waits { λ r. ⌜ Waits r (now (self .entry)) (now (self .exit)) ⌝ }
     {
@@ -113,7 +109,6 @@ impl Working {
 
     /// mfspr, mtspr.
     fn move_special(&mut self, shown: &Shown, i: MoveSpecial) -> Deed
-        requires { ⌜ i .register < 32 ⌝ }
         ensures same { λ r. ⌜ effect-of r (now (self .exit)) ≡ move-special (i .op) (i .register) (i .number) (now (self .entry)) (now (shown .entry)) ⌝ }
         ensures waits { λ r. ⌜ Waits r (now (self .entry)) (now (self .exit)) ⌝ }
     {
@@ -125,9 +120,7 @@ impl Working {
 
     /// tlbre, tlbwe.
     fn tlb_word(&self, i: TlbWord) -> Privileged
-        requires { ⌜ i .register < 32 ⌝ ∗ ⌜ i .ra < 32 ⌝ ∗ ⌜ i .word < 3 ⌝ }
-        ensures same { λ r. ⌜ r ≡ tlb-word (i .op) (i .register) (i .ra) (i .word) (now (self .entry)) ⌝ }
-        ensures fits { λ r. ⌜ PrivilegedInRange r ⌝ }
+        ensures { λ r. ⌜ r ≡ tlb-word (i .op) (i .register) (i .ra) (i .word) (now (self .entry)) ⌝ }
     {
         let entry = self.word(i.ra) % 64;
         match i.op {
@@ -146,9 +139,7 @@ impl Working {
 
     /// tlbsx, tlbsx.
     fn tlb_search(&self, i: TlbSearch) -> Privileged
-        requires { ⌜ i .rt < 32 ⌝ ∗ ⌜ i .ra < 32 ⌝ ∗ ⌜ i .rb < 32 ⌝ }
-        ensures same { λ r. ⌜ r ≡ tlb-search i (now (self .entry)) ⌝ }
-        ensures fits { λ r. ⌜ PrivilegedInRange r ⌝ }
+        ensures { λ r. ⌜ r ≡ tlb-search i (now (self .entry)) ⌝ }
     {
         Privileged::SearchEntries {
             rt: i.rt,
@@ -159,7 +150,6 @@ impl Working {
 
     /// The register part of an instruction, one arm for each format.
     fn perform_format(&mut self, shown: &Shown, instruction: Instruction) -> Deed
-        requires { ⌜ InRange instruction ⌝ }
         ensures same { λ r. ⌜ effect-of r (now (self .exit)) ≡ effected instruction (now (self .entry)) (now (shown .entry)) ⌝ }
         ensures waits { λ r. ⌜ Waits r (now (self .entry)) (now (self .exit)) ⌝ }
     {
@@ -210,5 +200,14 @@ impl Working {
             Instruction::TlbSearch(i) => Deed::Privileged(self.tlb_search(i)),
             Instruction::Barrier { ordering: _ } => self.proceed(),
         }
+    }
+
+    /// The register part of an instruction: it is done, or what is left to do is told and no register is altered yet.
+    pub fn perform(&mut self, shown: &Shown, instruction: Instruction) -> Deed
+        ensures same { λ r. ⌜ effect-of r (now (self .exit)) ≡ effect instruction (seen-of (now (self .entry)) (now (shown .entry))) ⌝ }
+        ensures waits { λ r. ⌜ Waits r (now (self .entry)) (now (self .exit)) ⌝ }
+        ensures aligned { λ _. ⌜ (Aligned (now (self .entry)) → Aligned (now (self .exit))) ⌝ }
+    {
+        self.perform_format(shown, instruction)
     }
 }
