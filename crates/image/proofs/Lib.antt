@@ -1,0 +1,4 @@
+pub mod Counting
+pub mod Law
+pub mod Ranges
+pub mod Steps
