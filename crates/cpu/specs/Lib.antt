@@ -1,9 +1,9 @@
 pub mod Branches
-pub mod Counter
 pub mod Deeds
 pub mod Effects
 pub mod Fields
 pub mod Integer
+pub mod Kept
 pub mod Known
 pub mod Memory
 pub mod Operations

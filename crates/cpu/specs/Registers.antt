@@ -6,6 +6,7 @@ use lib.ListN.{getD, set}
 use Rattle.word.specs.Words.{wrap, bit}
 use Rattle.cpu.specs.declared.registers.Working.{Working}
 use Rattle.cpu.specs.declared.registers.Xer.{Xer}
+use Rattle.cpu.specs.declared.registers.Msr.{Msr}
 
 -- a register by the low five bits of its number
 abbrev pub gpr-of : Working → ℕ → ℕ
@@ -52,3 +53,19 @@ xer-word x = bit (x .so) * 0x80000000 + bit (x .ov) * 0x40000000 + bit (x .ca) *
 
 abbrev pub xer-from : ℕ → Xer
 xer-from v = record { so = eqb (v / 0x80000000 % 2) 1; ov = eqb (v / 0x40000000 % 2) 1; ca = eqb (v / 0x20000000 % 2) 1; count = v % 128 }
+
+-- MSR as a word, each bit in its place
+abbrev pub msr-word : Msr → ℕ
+msr-word m =
+    bit (m .ce) * 0x20000 + bit (m .ee) * 0x8000 + bit (m .pr) * 0x4000 + bit (m .me) * 0x1000 + bit (m .de) * 0x200 + bit (m .is) * 0x20 + bit (m .ds) * 0x10
+
+abbrev pub msr-from : ℕ → Msr
+msr-from v = record {
+  ce = eqb (v / 0x20000 % 2) 1;
+  ee = eqb (v / 0x8000 % 2) 1;
+  pr = eqb (v / 0x4000 % 2) 1;
+  me = eqb (v / 0x1000 % 2) 1;
+  de = eqb (v / 0x200 % 2) 1;
+  is = eqb (v / 0x20 % 2) 1;
+  ds = eqb (v / 0x10 % 2) 1;
+}

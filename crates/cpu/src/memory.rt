@@ -1,6 +1,7 @@
 //! The loads and stores on the working registers.
 ghost use mathlib.Core.Path.{_≡_};
 ghost use Prim.Native.Nat.{ℕ, _<_};
+ghost use Rattle.cpu.specs.Kept.{Kept};
 ghost use Rattle.cpu.specs.Memory.{offset-of, address-of, updating, updated, load-width, load-conversion, converted, loading, indexed-width, indexed-conversion, reserves, loading-indexed, received, store-width, store-value, storing, indexed-store-width, indexed-store-value, storing-indexed, storing-conditional, settled, stored};
 use crate::deed::Conversion;
 use crate::deed::Loading;
@@ -234,7 +235,8 @@ impl Working {
 
     /// A load's end, once its value is there.
     pub fn receive(&mut self, loading: Loading, value: u32)
-        ensures { λ _. ⌜ now (self .exit) ≡ received loading value (now (self .entry)) ⌝ }
+        ensures after { λ _. ⌜ now (self .exit) ≡ received loading value (now (self .entry)) ⌝ }
+        ensures kept { λ _. ⌜ (Kept (now (self .entry)) → Kept (now (self .exit))) ⌝ }
     {
         self.update(loading.update, loading.address);
         self.set_word(loading.rt, loading.conversion.apply(value));
@@ -244,7 +246,8 @@ impl Working {
 
     /// A conditional store's end: whether it stored.
     pub fn settle(&mut self, stored: bool)
-        ensures { λ _. ⌜ now (self .exit) ≡ settled stored (now (self .entry)) ⌝ }
+        ensures after { λ _. ⌜ now (self .exit) ≡ settled stored (now (self .entry)) ⌝ }
+        ensures kept { λ _. ⌜ (Kept (now (self .entry)) → Kept (now (self .exit))) ⌝ }
     {
         let field = stored as u32 * 2 + self.xer.so as u32;
         self.cr = condition::with_field(self.cr, 0, field);
@@ -254,7 +257,8 @@ impl Working {
 
     /// A store's end, once it is made.
     pub fn conclude(&mut self, storing: Storing)
-        ensures { λ _. ⌜ now (self .exit) ≡ stored storing (now (self .entry)) ⌝ }
+        ensures after { λ _. ⌜ now (self .exit) ≡ stored storing (now (self .entry)) ⌝ }
+        ensures kept { λ _. ⌜ (Kept (now (self .entry)) → Kept (now (self .exit))) ⌝ }
     {
         if storing.conditional {
             self.settle(true);

@@ -1,7 +1,7 @@
 //! The register part of every instruction.
 ghost use mathlib.Core.Path.{_≡_};
 ghost use Prim.Native.Nat.{ℕ, _%_, _<_};
-ghost use Rattle.cpu.specs.Counter.{Aligned};
+ghost use Rattle.cpu.specs.Kept.{Kept};
 ghost use Rattle.cpu.specs.Effects.{seen-of, effected, effect, effect-of, tlb-search, store-conditional, trapping, bare, move, move-special, tlb-word, Waits};
 use crate::deed::Deed;
 use crate::deed::Privileged;
@@ -206,7 +206,7 @@ impl Working {
     pub fn perform(&mut self, shown: &Shown, instruction: Instruction) -> Deed
         ensures same { λ r. ⌜ effect-of r (now (self .exit)) ≡ effect instruction (seen-of (now (self .entry)) (now (shown .entry))) ⌝ }
         ensures waits { λ r. ⌜ Waits r (now (self .entry)) (now (self .exit)) ⌝ }
-        ensures aligned { λ _. ⌜ (Aligned (now (self .entry)) → Aligned (now (self .exit))) ⌝ }
+        ensures kept { λ _. ⌜ (Kept (now (self .entry)) → Kept (now (self .exit))) ⌝ }
     {
         self.perform_format(shown, instruction)
     }

@@ -22,10 +22,23 @@ pub struct Working {
     pub reserved: bool,
 }
 
+/// MSR: the enables of critical, external, machine check and debug interrupts, user state, and the address spaces of
+/// fetches and of data.
+#[derive(Clone, Copy)]
+pub struct Msr {
+    pub ce: bool,
+    pub ee: bool,
+    pub pr: bool,
+    pub me: bool,
+    pub de: bool,
+    pub is: bool,
+    pub ds: bool,
+}
+
 /// What user state sees and does not alter: MSR, SPRG4 to SPRG7 and the external line.
 #[derive(Clone, Copy)]
 pub struct Shown {
-    pub msr: u32,
+    pub msr: Msr,
     pub sprg: [u32; 4],
     pub line: bool,
 }

@@ -3,9 +3,10 @@ ghost use mathlib.Core.Path.{_≡_};
 ghost use Prim.Native.Nat.{ℕ, _<_};
 ghost use lib.ListN.{length};
 ghost use Rattle.std.specs.declared.option.Option.the-variants.{Some, None};
-ghost use Rattle.cpu.specs.Registers.{xer-word, xer-from};
+ghost use Rattle.cpu.specs.Registers.{xer-word, xer-from, msr-word, msr-from};
 ghost use Rattle.cpu.specs.Specials.{privileged-number, special-word, with-special};
 ghost use Rattle.cpu.specs.Known.{Known};
+use crate::registers::Msr;
 use crate::registers::Shown;
 use crate::registers::Working;
 use crate::registers::Xer;
@@ -30,6 +31,36 @@ impl Xer {
             ov: word / 0x4000_0000 % 2 == 1,
             ca: word / 0x2000_0000 % 2 == 1,
             count: word % 128,
+        }
+    }
+}
+
+impl Msr {
+    /// MSR as a word.
+    pub fn word(self) -> u32
+        ensures { λ r. ⌜ r ≡ msr-word self ⌝ }
+    {
+        self.ce as u32 * 0x2_0000
+            + self.ee as u32 * 0x8000
+            + self.pr as u32 * 0x4000
+            + self.me as u32 * 0x1000
+            + self.de as u32 * 0x200
+            + self.is as u32 * 0x20
+            + self.ds as u32 * 0x10
+    }
+
+    /// MSR from a word, whose other bits are dropped.
+    pub fn from_word(word: u32) -> Msr
+        ensures { λ r. ⌜ r ≡ msr-from word ⌝ }
+    {
+        Msr {
+            ce: word / 0x2_0000 % 2 == 1,
+            ee: word / 0x8000 % 2 == 1,
+            pr: word / 0x4000 % 2 == 1,
+            me: word / 0x1000 % 2 == 1,
+            de: word / 0x200 % 2 == 1,
+            is: word / 0x20 % 2 == 1,
+            ds: word / 0x10 % 2 == 1,
         }
     }
 }

@@ -1,6 +1,6 @@
 use denote.Ref.{now}
 use Rattle.cpu.specs.Effects.{effect, effected}
-use Rattle.cpu.proofs.Counter.{aligned, deed-aligned}
+use Rattle.cpu.proofs.Kept.{kept, deed-kept}
 use Rattle.cpu.proofs.registers.Working.perform.Needs as need
 
 pub returns : need.returns
@@ -10,5 +10,5 @@ returns c =
     record {
       same = e .same;
       waits = e .waits;
-      aligned = λ h. deed-aligned (c .perform-format .result) _ _ _ (e .same) (e .waits) (aligned (c .args .instruction) (now (c .args .self)) (now (c .args .shown)) h) h;
+      kept = λ h. deed-kept (c .perform-format .result) _ _ _ (e .same) (e .waits) (kept (c .args .instruction) (now (c .args .self)) (now (c .args .shown)) h) h;
     }
