@@ -1,0 +1,4 @@
+pub mod Models
+pub mod Keeping
+pub mod Values
+pub mod Joining

@@ -1,0 +1,5 @@
+pub mod Deeds
+pub mod Entries
+pub mod Hidden
+pub mod Machine
+pub mod Specials

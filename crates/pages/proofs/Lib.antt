@@ -1,0 +1,4 @@
+pub mod Masks
+pub mod Sizes
+pub mod Searching
+pub mod Known
