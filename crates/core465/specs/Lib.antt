@@ -3,3 +3,4 @@ pub mod Entries
 pub mod Hidden
 pub mod Machine
 pub mod Specials
+pub mod Values

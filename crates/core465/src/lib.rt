@@ -2,5 +2,9 @@
 
 mod deeds;
 pub mod hidden;
-pub mod machine;
+mod machine;
 pub mod special;
+mod values;
+
+pub use machine::Core;
+pub use values::known_values;
