@@ -5,6 +5,7 @@ pub mod hidden;
 mod machine;
 pub mod special;
 mod values;
+mod view;
 
 pub use machine::Core;
 pub use values::known_values;
