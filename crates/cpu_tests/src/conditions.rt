@@ -1,0 +1,72 @@
+// The condition register.
+use crate::bench::run;
+use std::test::*;
+
+const ROWS: [&str; 59] = [
+    "4FE44A02 crand 31,4,9 | cr=1 | done | cr=0",
+    "4FE44A02 crand 31,4,9 | cr=400000 | done | ",
+    "4FE44A02 crand 31,4,9 | cr=8000001 | done | cr=8000000",
+    "4FE44A02 crand 31,4,9 | cr=8400000 | done | cr=8400001",
+    "4FE44902 crandc 31,4,9 | cr=1 | done | cr=0",
+    "4FE44902 crandc 31,4,9 | cr=400000 | done | ",
+    "4FE44902 crandc 31,4,9 | cr=8000001 | done | ",
+    "4FE44902 crandc 31,4,9 | cr=8400000 | done | ",
+    "4FE44A42 creqv 31,4,9 | cr=1 | done | ",
+    "4FE44A42 creqv 31,4,9 | cr=400000 | done | ",
+    "4FE44A42 creqv 31,4,9 | cr=8000001 | done | cr=8000000",
+    "4FE44A42 creqv 31,4,9 | cr=8400000 | done | cr=8400001",
+    "4FE449C2 crnand 31,4,9 | cr=1 | done | ",
+    "4FE449C2 crnand 31,4,9 | cr=400000 | done | cr=400001",
+    "4FE449C2 crnand 31,4,9 | cr=8000001 | done | ",
+    "4FE449C2 crnand 31,4,9 | cr=8400000 | done | ",
+    "4FE44842 crnor 31,4,9 | cr=1 | done | ",
+    "4FE44842 crnor 31,4,9 | cr=400000 | done | ",
+    "4FE44842 crnor 31,4,9 | cr=8000001 | done | cr=8000000",
+    "4FE44842 crnor 31,4,9 | cr=8400000 | done | ",
+    "4FE44B82 cror 31,4,9 | cr=1 | done | cr=0",
+    "4FE44B82 cror 31,4,9 | cr=400000 | done | cr=400001",
+    "4FE44B82 cror 31,4,9 | cr=8000001 | done | ",
+    "4FE44B82 cror 31,4,9 | cr=8400000 | done | cr=8400001",
+    "4FE44B42 crorc 31,4,9 | cr=1 | done | ",
+    "4FE44B42 crorc 31,4,9 | cr=400000 | done | ",
+    "4FE44B42 crorc 31,4,9 | cr=8000001 | done | ",
+    "4FE44B42 crorc 31,4,9 | cr=8400000 | done | cr=8400001",
+    "4FE44982 crxor 31,4,9 | cr=1 | done | cr=0",
+    "4FE44982 crxor 31,4,9 | cr=400000 | done | cr=400001",
+    "4FE44982 crxor 31,4,9 | cr=8000001 | done | ",
+    "4FE44982 crxor 31,4,9 | cr=8400000 | done | ",
+    "4CC63242 creqv 6,6,6 | cr=0 | done | cr=2000000",
+    "4C000182 crxor 0,0,0 | cr=FFFFFFFF | done | cr=7FFFFFFF",
+    "4CA00382 cror 5,0,0 | cr=80000000 | done | cr=84000000",
+    "4C5FF842 crnor 2,31,31 | cr=1 | done | ",
+    // mcrf and mcrxr
+    "4C1C0000 mcrf cr0,cr7 |  | done | cr=71234567",
+    "4F840000 mcrf cr7,cr1 |  | done | cr=1234561",
+    "4D8C0000 mcrf cr3,cr3 |  | done | ",
+    "4D000000 mcrf cr2,cr0 | cr=FFFFFFF | done | cr=F0FFFFF",
+    "7C000400 mcrxr cr0 | xer=A0000055 | done | cr=A1234567 xer=55",
+    "7C000400 mcrxr cr0 | xer=40000000 | done | cr=41234567 xer=0",
+    "7C000400 mcrxr cr0 | xer=E000007F | done | cr=E1234567 xer=7F",
+    "7C000400 mcrxr cr0 | xer=0 | done | ",
+    "7F800400 mcrxr cr7 | cr=FFFFFFFF xer=E0000001 | done | cr=FFFFFFFE xer=1",
+    "7E000400 mcrxr cr4 | xer=20000055 | done | cr=1232567 xer=55",
+    // mtcrf by each bit of its mask, and mfcr
+    "7C801120 mtcrf 1,r4 | r4=89ABCDEF | done | cr=123456F",
+    "7C802120 mtcrf 2,r4 | r4=89ABCDEF | done | cr=12345E7",
+    "7C804120 mtcrf 4,r4 | r4=89ABCDEF | done | cr=1234D67",
+    "7C808120 mtcrf 8,r4 | r4=89ABCDEF | done | cr=123C567",
+    "7C810120 mtcrf 16,r4 | r4=89ABCDEF | done | cr=12B4567",
+    "7C820120 mtcrf 32,r4 | r4=89ABCDEF | done | cr=1A34567",
+    "7C840120 mtcrf 64,r4 | r4=89ABCDEF | done | cr=9234567",
+    "7C880120 mtcrf 128,r4 | r4=89ABCDEF | done | cr=81234567",
+    "7C8FF120 mtcrf 0xFF,r4 | r4=89ABCDEF | done | cr=89ABCDEF",
+    "7C800120 mtcrf 0,r4 | r4=89ABCDEF | done | ",
+    "7C0A5120 mtcrf 0xA5,r0 | r0=FFFFFFFF cr=0 | done | cr=F0F00F0F",
+    "7C600026 mfcr r3 |  | done | r3=1234567",
+    "7C000026 mfcr r0 | cr=89ABCDEF | done | r0=89ABCDEF",
+];
+
+#[test]
+fn moves_and_logic_of_conditions(rt: LibcRuntime) -> Result<(), Fail> {
+    run(rt.alloc(), &ROWS)
+}

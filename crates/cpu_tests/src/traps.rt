@@ -1,0 +1,62 @@
+// Traps by each of the five conditions.
+use crate::bench::run;
+use std::test::*;
+
+const ROWS: [&str; 51] = [
+    "7E042808 tw 16,r4,r5 | r4=FFFFFFFF r5=1 | trap | ",
+    "7E042808 tw 16,r4,r5 | r4=1 r5=FFFFFFFF | done | ",
+    "7E042808 tw 16,r4,r5 | r4=5 r5=5 | done | ",
+    "7E042808 tw 16,r4,r5 | r4=1 r5=2 | trap | ",
+    "7D042808 tw 8,r4,r5 | r4=FFFFFFFF r5=1 | done | ",
+    "7D042808 tw 8,r4,r5 | r4=1 r5=FFFFFFFF | trap | ",
+    "7D042808 tw 8,r4,r5 | r4=5 r5=5 | done | ",
+    "7D042808 tw 8,r4,r5 | r4=1 r5=2 | done | ",
+    "7C842808 tw 4,r4,r5 | r4=FFFFFFFF r5=1 | done | ",
+    "7C842808 tw 4,r4,r5 | r4=1 r5=FFFFFFFF | done | ",
+    "7C842808 tw 4,r4,r5 | r4=5 r5=5 | trap | ",
+    "7C842808 tw 4,r4,r5 | r4=1 r5=2 | done | ",
+    "7C442808 tw 2,r4,r5 | r4=FFFFFFFF r5=1 | done | ",
+    "7C442808 tw 2,r4,r5 | r4=1 r5=FFFFFFFF | trap | ",
+    "7C442808 tw 2,r4,r5 | r4=5 r5=5 | done | ",
+    "7C442808 tw 2,r4,r5 | r4=1 r5=2 | trap | ",
+    "7C242808 tw 1,r4,r5 | r4=FFFFFFFF r5=1 | trap | ",
+    "7C242808 tw 1,r4,r5 | r4=1 r5=FFFFFFFF | done | ",
+    "7C242808 tw 1,r4,r5 | r4=5 r5=5 | done | ",
+    "7C242808 tw 1,r4,r5 | r4=1 r5=2 | done | ",
+    "7C042808 tw 0,r4,r5 | r4=FFFFFFFF r5=1 | done | ",
+    "7C042808 tw 0,r4,r5 | r4=1 r5=FFFFFFFF | done | ",
+    "7C042808 tw 0,r4,r5 | r4=5 r5=5 | done | ",
+    "7C042808 tw 0,r4,r5 | r4=1 r5=2 | done | ",
+    "7FE42808 tw 31,r4,r5 | r4=FFFFFFFF r5=1 | trap | ",
+    "7FE42808 tw 31,r4,r5 | r4=1 r5=FFFFFFFF | trap | ",
+    "7FE42808 tw 31,r4,r5 | r4=5 r5=5 | trap | ",
+    "7FE42808 tw 31,r4,r5 | r4=1 r5=2 | trap | ",
+    "0E040001 twi 16,r4,1 | r4=FFFFFFFF | trap | ",
+    "0E04FFFF twi 16,r4,-1 | r4=1 | done | ",
+    "0E04FFFB twi 16,r4,-5 | r4=FFFFFFFB | done | ",
+    "0E040002 twi 16,r4,2 | r4=1 | trap | ",
+    "0D040001 twi 8,r4,1 | r4=FFFFFFFF | done | ",
+    "0D04FFFF twi 8,r4,-1 | r4=1 | trap | ",
+    "0D04FFFB twi 8,r4,-5 | r4=FFFFFFFB | done | ",
+    "0D040002 twi 8,r4,2 | r4=1 | done | ",
+    "0C840001 twi 4,r4,1 | r4=FFFFFFFF | done | ",
+    "0C84FFFF twi 4,r4,-1 | r4=1 | done | ",
+    "0C84FFFB twi 4,r4,-5 | r4=FFFFFFFB | trap | ",
+    "0C840002 twi 4,r4,2 | r4=1 | done | ",
+    "0C440001 twi 2,r4,1 | r4=FFFFFFFF | done | ",
+    "0C44FFFF twi 2,r4,-1 | r4=1 | trap | ",
+    "0C44FFFB twi 2,r4,-5 | r4=FFFFFFFB | done | ",
+    "0C440002 twi 2,r4,2 | r4=1 | trap | ",
+    "0C240001 twi 1,r4,1 | r4=FFFFFFFF | trap | ",
+    "0C24FFFF twi 1,r4,-1 | r4=1 | done | ",
+    "0C24FFFB twi 1,r4,-5 | r4=FFFFFFFB | done | ",
+    "0C240002 twi 1,r4,2 | r4=1 | done | ",
+    "0C040000 twi 0,r4,0 | r4=0 | done | ",
+    "0FE47FFF twi 31,r4,32767 | r4=0 | trap | ",
+    "0C800000 twi 4,r0,0 | r0=0 | trap | ",
+];
+
+#[test]
+fn traps_by_condition(rt: LibcRuntime) -> Result<(), Fail> {
+    run(rt.alloc(), &ROWS)
+}
