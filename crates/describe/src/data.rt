@@ -1,9 +1,9 @@
 //! Data in words: instructions where whole words stand, and single bytes elsewhere.
 ghost use Prim.Native.Nat.{_^_, _<_};
-use assembly::Word;
-use assembly::WordText;
 use crate::count::Count;
 use crate::count::CountDisplay;
+use assembly::Word;
+use assembly::WordText;
 use image::real_address;
 use std::fmt;
 

@@ -12,16 +12,34 @@ const SPACE: u32 = 0x100;
 
 // The rights of user state, in word 2.
 const USER: [Flag; 3] = [
-    Flag { mask: 0x20, name: "execute" },
-    Flag { mask: 0x10, name: "write" },
-    Flag { mask: 0x08, name: "read" },
+    Flag {
+        mask: 0x20,
+        name: "execute",
+    },
+    Flag {
+        mask: 0x10,
+        name: "write",
+    },
+    Flag {
+        mask: 0x08,
+        name: "read",
+    },
 ];
 
 // The rights of supervisor state, in word 2.
 const SUPERVISOR: [Flag; 3] = [
-    Flag { mask: 0x04, name: "execute" },
-    Flag { mask: 0x02, name: "write" },
-    Flag { mask: 0x01, name: "read" },
+    Flag {
+        mask: 0x04,
+        name: "execute",
+    },
+    Flag {
+        mask: 0x02,
+        name: "write",
+    },
+    Flag {
+        mask: 0x01,
+        name: "read",
+    },
 ];
 
 /// A page entry with its fields: five lines.
@@ -43,7 +61,10 @@ fn write_words<W: fmt::Write>(f: &mut fmt::Formatter<W>, entry: PageEntry) -> fm
     let word0 = entry.word0;
     let word1 = entry.word1;
     let word2 = entry.word2;
-    write!(f, "entry {number}\n  words 0x{word0:08X} 0x{word1:08X} 0x{word2:08X}\n")
+    write!(
+        f,
+        "entry {number}\n  words 0x{word0:08X} 0x{word1:08X} 0x{word2:08X}\n"
+    )
 }
 
 // Which effective addresses the entry is for.
@@ -51,7 +72,11 @@ fn write_page<W: fmt::Write>(f: &mut fmt::Formatter<W>, entry: PageEntry) -> fmt
     let size = page_size(entry.word0);
     let name = size.name;
     let page = entry.word0 & size.mask;
-    let valid = if entry.word0 & VALID != 0 { "valid" } else { "invalid" };
+    let valid = if entry.word0 & VALID != 0 {
+        "valid"
+    } else {
+        "invalid"
+    };
     let space = if entry.word0 & SPACE != 0 { 1 } else { 0 };
     write!(f, "  page 0x{page:08X}, {name}, {valid}, space {space}, ")?;
     match entry.tid {

@@ -5,13 +5,34 @@ use std::fmt;
 
 // The bits of the MSR, from the left.
 const MSR: [Flag; 7] = [
-    Flag { mask: 0x0002_0000, name: "CE" },
-    Flag { mask: 0x0000_8000, name: "EE" },
-    Flag { mask: 0x0000_4000, name: "PR" },
-    Flag { mask: 0x0000_1000, name: "ME" },
-    Flag { mask: 0x0000_0200, name: "DE" },
-    Flag { mask: 0x0000_0020, name: "IS" },
-    Flag { mask: 0x0000_0010, name: "DS" },
+    Flag {
+        mask: 0x0002_0000,
+        name: "CE",
+    },
+    Flag {
+        mask: 0x0000_8000,
+        name: "EE",
+    },
+    Flag {
+        mask: 0x0000_4000,
+        name: "PR",
+    },
+    Flag {
+        mask: 0x0000_1000,
+        name: "ME",
+    },
+    Flag {
+        mask: 0x0000_0200,
+        name: "DE",
+    },
+    Flag {
+        mask: 0x0000_0020,
+        name: "IS",
+    },
+    Flag {
+        mask: 0x0000_0010,
+        name: "DS",
+    },
 ];
 
 /// Where the core starts, and in which state: two lines.

@@ -13,9 +13,7 @@ use std::fmt;
 #[derive(Clone, Copy, PartialEq, Eq, Debug)]
 pub enum Fault {
     /// A character is neither a hexadecimal digit nor white space: the first such one has this offset.
-    NoDigit {
-        offset: usize,
-    },
+    NoDigit { offset: usize },
     /// The number of digits is odd, so that half a byte is left at the end.
     HalfByte,
     /// There is no memory for the bytes.

@@ -17,14 +17,14 @@ loop-offset-again c =
     let i = c .loop-offset .offset in
     let h = c .loop-offset-test .taken in
     elim (c .match-classify .came) [
-      in-Digit w ↦
-        let s = sound-more text i _ h (w .in-Digit .ensures tt .value) refl in
-        let d = ap length (digits-more text i _ h (w .in-Digit .ensures tt .value)) in
-        (omega arith, omega arith, omega arith)
-    | in-Space w ↦
-        let s = sound-more text i _ h (w .in-Space .ensures tt .value) refl in
-        let d = ap length (digits-more text i _ h (w .in-Space .ensures tt .value)) in
-        (omega arith, omega arith, omega arith)
+      | in-Digit w ↦
+          let s = sound-more text i _ h (w .in-Digit .ensures tt .value) refl in
+          let d = ap length (digits-more text i _ h (w .in-Digit .ensures tt .value)) in
+          (omega arith, omega arith, omega arith)
+      | in-Space w ↦
+          let s = sound-more text i _ h (w .in-Space .ensures tt .value) refl in
+          let d = ap length (digits-more text i _ h (w .in-Space .ensures tt .value)) in
+          (omega arith, omega arith, omega arith)
     ]
 
 pub returns : need.returns

@@ -21,16 +21,16 @@ loop-character-again c =
     let h = c .loop-character-test .taken in
     let inv = c .loop-character .inv in
     elim (c .match-classify .came) [
-      in-Digit·in-None w ↦
-        let d = digits-more text i _ h (w .in-Digit .ensures tt .value) in
-        simp (w .first-is, w .bytes-is) (w .in-Digit .ensures tt .small, simp (w .in-None .is, d) at (inv .1))
-    | in-Digit·in-Some·in-Continue-push w ↦
-        let d = digits-more text i _ h (w .in-Digit .ensures tt .value) in
-        let items = w .in-Continue-push .ensures tt .items in
-        simp (w .first-is, w .bytes-is, items) (tt, pairs-push _ _ _ (digits (drop (i + 1) text)) ∙ simp (w .in-Some .is, d) at (inv .1))
-    | in-rest w ↦
-        let d = digits-skip text i _ h (c .classify .ensures .value) (w .in-rest .not-Digit) in
-        simp (w .first-is, w .bytes-is) (inv .0, simp d at (inv .1))
+      | in-Digit·in-None w ↦
+          let d = digits-more text i _ h (w .in-Digit .ensures tt .value) in
+          simp (w .first-is, w .bytes-is) (w .in-Digit .ensures tt .small, simp (w .in-None .is, d) at (inv .1))
+      | in-Digit·in-Some·in-Continue-push w ↦
+          let d = digits-more text i _ h (w .in-Digit .ensures tt .value) in
+          let items = w .in-Continue-push .ensures tt .items in
+          simp (w .first-is, w .bytes-is, items) (tt, pairs-push _ _ _ (digits (drop (i + 1) text)) ∙ simp (w .in-Some .is, d) at (inv .1))
+      | in-rest w ↦
+          let d = digits-skip text i _ h (c .classify .ensures .value) (w .in-rest .not-Digit) in
+          simp (w .first-is, w .bytes-is) (inv .0, simp d at (inv .1))
     ]
 
 pub returns : need.returns

@@ -1,0 +1,41 @@
+//! Bytes written to any bus, one after the other.
+ghost use mathlib.Core.Path.{_≡_};
+ghost use Rattle.placing.specs.Placing.{placed};
+use bus::Bus;
+use bus::Code;
+use std::error::Error;
+use std::fmt;
+
+/// The address of an access that a bus denies, and the code of the denial.
+#[derive(Clone, Copy, PartialEq, Eq, Debug)]
+pub struct Denied {
+    pub address: u64,
+    pub code: Code,
+}
+
+pub impl fmt::Display for Denied as DeniedDisplay {
+    fn fmt<W: fmt::Write>(&self, f: &mut fmt::Formatter<W>) -> fmt::Result {
+        let address = self.address;
+        let code = self.code;
+        write!(f, "0x{address:09X} denied with code {code}")
+    }
+}
+
+pub impl Error for Denied as DeniedError {}
+
+/// Writes the bytes from the address on, each by an access of its own, in their order, up to the first that the bus
+/// denies. Those before it stay written.
+pub fn place<B: Bus>(bus: &mut B, address: u64, bytes: &[u8]) -> Result<(), Denied>
+    ensures answer { λ r. ⌜ r ≡ placed (B·Bus .model (now (bus .entry))) address (now (bytes .entry)) .answer ⌝ }
+    ensures state { λ _. ⌜ B·Bus .model (now (bus .exit)) ≡ placed (B·Bus .model (now (bus .entry))) address (now (bytes .entry)) .model ⌝ }
+    ensures loan { λ _. ⌜ B·Bus .lent (now (bus .exit)) ≡ B·Bus .lent (now (bus .entry)) ⌝ }
+{
+    let mut at = address;
+    for byte in bytes {
+        if let Err(code) = bus.write(at, 1, u32::from(*byte)) {
+            return Err(Denied { address: at, code });
+        }
+        at += 1;
+    }
+    Ok(())
+}
