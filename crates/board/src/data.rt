@@ -89,7 +89,7 @@ fn show_data<B: Bus>(rt: &impl Print, bus: &mut B, address: u64, bytes: &[u8]) -
         Err(denied) => {
             println!(rt, "  write at {denied}")?;
             Loaded {
-                bytes: denied.address.saturating_sub(address) as usize,
+                bytes: (denied.address - address) as usize,
                 verdict: Verdict::Faulty,
             }
         }

@@ -5,7 +5,7 @@ mod conditions;
 pub mod deed;
 mod integer;
 mod memory;
-pub mod operation;
+mod operation;
 mod perform;
 pub mod registers;
 pub mod special;
