@@ -16,7 +16,7 @@ use std::io;
 
 /// What came of writing data to a bus: how many bytes it took, and whether it took them all.
 #[derive(Clone, Copy)]
-pub struct Loaded {
+pub(crate) struct Loaded {
     pub bytes: usize,
     pub verdict: Verdict,
 }
@@ -41,7 +41,7 @@ const NOTHING: Loaded = Loaded {
 
 /// Writes the data of an image to a bus, record by record, and prints what the bus then holds there, up to the first
 /// fault of the image.
-pub fn load<B: Bus>(rt: &impl Print, bus: &mut B, mut reader: Reader) -> io::Result<Loaded> {
+pub(crate) fn load<B: Bus>(rt: &impl Print, bus: &mut B, mut reader: Reader) -> io::Result<Loaded> {
     let mut loaded = NOTHING;
     loop {
         match reader.next() {

@@ -6,7 +6,7 @@ use std::io;
 
 /// Prints the word FLAGS, which stands at the address, writes each of its four lowest bits to it in turn, and prints
 /// what it is then.
-pub fn show_flags<B: Bus>(rt: &impl Print, bus: &mut B, address: u64) -> io::Result<()> {
+pub(crate) fn show_flags<B: Bus>(rt: &impl Print, bus: &mut B, address: u64) -> io::Result<()> {
     match bus.read(address, 4) {
         Ok(flags) => println!(rt, "FLAGS is 0x{flags:08X}")?,
         Err(code) => println!(rt, "FLAGS at {}", Denied { address, code })?,

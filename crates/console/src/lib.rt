@@ -1,4 +1,8 @@
 //! What the programs have in common: an image as hexadecimal text on standard input, and how a program ends.
+ghost use mathlib.Core.Path.{_≡_};
+ghost use Rattle.std.specs.Results.{isOk};
+ghost use Rattle.std.specs.Vec.{made};
+ghost use Rattle.console.specs.Ending.{isSound};
 use hexadecimal::FaultDisplay;
 use hexadecimal::parse;
 use image::Refusal;
@@ -34,14 +38,18 @@ pub fn read_bytes(rt: &LibcRuntime) -> io::Result<Option<Vec<u8>>> {
 }
 
 /// Prints why an image is refused.
-pub fn refuse(rt: &impl Print, refusal: Refusal) -> io::Result<Verdict> {
+pub fn refuse(rt: &impl Print, refusal: Refusal) -> io::Result<Verdict>
+    ensures { λ r. ⌜ made r (λ v. v ≡ Verdict.Faulty) ⌝ }
+{
     println!(rt, "{refusal}")?;
     Ok(Verdict::Faulty)
 }
 
 /// How a program ends: with status 0 where its input is sound, and else with status 1. An error of the system is
 /// printed on standard error.
-pub fn end(rt: &LibcRuntime, result: io::Result<Verdict>) -> Result<(), AnyError> {
+pub fn end(rt: &LibcRuntime, result: io::Result<Verdict>) -> Result<(), AnyError>
+    ensures { λ r. ⌜ isOk r ≡ isSound result ⌝ }
+{
     match rt.report(result)? {
         Verdict::Sound => Ok(()),
         Verdict::Faulty => Err("the input is faulty".into()),

@@ -256,7 +256,7 @@ fn data_says(
 }
 
 #[test]
-fn data_is_listed_by_words_and_by_bytes(rt: LibcRuntime) -> Result<(), Fail> {
+fn whole_words_are_instructions(rt: LibcRuntime) -> Result<(), Fail> {
     data_says(
         &rt,
         0,
@@ -270,7 +270,11 @@ fn data_is_listed_by_words_and_by_bytes(rt: LibcRuntime) -> Result<(), Fail> {
         0xFFFF_FFFC,
         &[0, 0, 0, 0],
         "data at 0xFFFFFFFFC, 4 bytes\n  0xFFFFFFFFC  00000000  illegal",
-    )?;
+    )
+}
+
+#[test]
+fn bytes_outside_of_a_word_stand_alone(rt: LibcRuntime) -> Result<(), Fail> {
     data_says(
         &rt,
         1,
