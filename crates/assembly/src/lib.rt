@@ -1,4 +1,5 @@
 //! The assembler text of instructions.
+#![tactic(auto)]
 
 mod mnemonic;
 mod operand;

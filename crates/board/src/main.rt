@@ -1,4 +1,6 @@
 //! A board at work: memory and a flag page as one bus, an image's data written to it and read back.
+#![tactic(auto)]
+
 mod data;
 mod flag_page;
 

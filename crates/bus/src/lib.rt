@@ -1,4 +1,6 @@
 //! A bus of 36-bit real addresses, in frames of 1,024 bytes: what every bus does, and two buses as one.
+#![tactic(auto)]
+
 ghost use Rattle.std.specs.Prelude.{◌≡◌, if◌then◌else◌};
 ghost use Rattle.bus.specs.Join.{joined, model_of};
 ghost use Rattle.bus.specs.Laws.{joined_lawful};

@@ -1,4 +1,6 @@
 //! Tables of accesses to each bus, with the answers and the bytes afterwards that the bus rules give.
+#![tactic(auto)]
+
 #[cfg(test)]
 mod lending;
 #[cfg(test)]

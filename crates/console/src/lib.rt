@@ -1,4 +1,6 @@
 //! What the programs have in common: an image as hexadecimal text on standard input, and how a program ends.
+#![tactic(auto)]
+
 ghost use Rattle.std.specs.Prelude.{◌≡◌, is_ok, IfOk};
 ghost use Rattle.console.specs.Ending.{is_sound};
 

@@ -1,4 +1,5 @@
 //! A core: its registers and page entries, with what always holds of them, and what privileged instructions do.
+#![tactic(auto)]
 
 mod deeds;
 pub mod hidden;

@@ -1,4 +1,5 @@
 //! Tests of a core's privileged deeds, with values from the architecture.
+#![tactic(auto)]
 
 #[cfg(test)]
 mod deeds;

@@ -1,4 +1,5 @@
 //! The registers that user state works with, and what each instruction does to them.
+#![tactic(auto)]
 
 mod branch;
 mod conditions;

@@ -1,3 +1,5 @@
+#![tactic(auto)]
+
 // Runs the register part of every instruction on tables of rows, whose values were worked out from the architecture.
 #[cfg(test)]
 mod bench;

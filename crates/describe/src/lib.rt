@@ -1,4 +1,6 @@
 //! The records of a firmware image in words.
+#![tactic(auto)]
+
 mod count;
 mod data;
 mod entry;

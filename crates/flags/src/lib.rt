@@ -1,4 +1,6 @@
 //! The flag page: one frame, zero but for the words FLAGS and ENABLE.
+#![tactic(auto)]
+
 ghost use Rattle.std.specs.Prelude.{◌≡◌, ℕ, ◌%◌, ◌^◌, ◌<◌, if◌then◌else◌, nat_eq};
 ghost use Rattle.flags.specs.Flags.{page as pageModel, bit_of, without, model_of};
 ghost use Rattle.flags.specs.Laws.{page_lawful};

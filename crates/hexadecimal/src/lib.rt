@@ -1,4 +1,6 @@
 //! Bytes written as hexadecimal text.
+#![tactic(auto)]
+
 ghost use Rattle.std.specs.Prelude.{◌≡◌, length, IfOk};
 ghost use Rattle.hexadecimal.specs.Text.{symbol_of, digits, counted, pairs, Small, Told};
 

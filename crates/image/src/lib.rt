@@ -1,3 +1,5 @@
+#![tactic(auto)]
+
 // The reader of a firmware image: a version byte, then records, which are handed out as parts of the image.
 mod parse;
 mod reader;

@@ -1,4 +1,6 @@
 //! The interrupts: their numbers, what brings each about, and what each tells of its cause.
+#![tactic(auto)]
+
 ghost use Rattle.std.specs.Prelude.{◌≡◌, ℕ, ◌<◌};
 ghost use Rattle.interrupt.specs.Interrupts.{number_of, interrupt_of, fault_bit, store_bit, esr_of, dear_of, return_to, taken};
 

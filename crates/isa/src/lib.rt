@@ -1,4 +1,5 @@
 //! The instruction set of the readout core: words read as instructions, and instructions written as words.
+#![tactic(auto)]
 
 mod decoding;
 mod encoding;

@@ -1,4 +1,5 @@
 //! Tests of words, instructions and their text.
+#![tactic(auto)]
 
 #[cfg(test)]
 mod no_word;

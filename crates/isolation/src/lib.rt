@@ -1,4 +1,6 @@
 //! The isolation of user state, as a law over all lives of a core, and two lives which show that it is not empty.
+#![tactic(auto)]
+
 ghost use Rattle.isolation.specs.Isolation.{Isolation};
 ghost use Rattle.isolation.specs.Witness.{TwoLives};
 

@@ -1,4 +1,6 @@
 //! Lists a firmware image: its records in words, and its data as instructions.
+#![tactic(auto)]
+
 use console::Verdict;
 use describe::{Count, Described};
 use image::Reader;

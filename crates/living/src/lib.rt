@@ -1,4 +1,5 @@
 //! A whole life of a core as one call: a list of commands in, all answers out.
+#![tactic(auto)]
 
 mod command;
 mod held;

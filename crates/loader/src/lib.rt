@@ -1,4 +1,6 @@
 //! A firmware image, loaded into a core and its bus.
+#![tactic(auto)]
+
 ghost use Rattle.std.specs.Prelude.{◌≡◌, ℕ, ◌+◌, ◌%◌, ◌^◌, ◌<◌, true, length, is_ok};
 ghost use Rattle.image.specs.Readers.{remaining};
 ghost use Rattle.image.specs.Records.{InRange};

@@ -1,4 +1,6 @@
 //! Plain memory: the whole frames of a window of bytes.
+#![tactic(auto)]
+
 ghost use Rattle.std.specs.Prelude.{◌≡◌, ℕ, ◌+◌, ◌-◌, ◌*◌, ◌/◌, ◌%◌, ◌≤◌, [], ◌∷◌, length};
 ghost use Rattle.bus.specs.Model.{IsWidth, big_endian, put_at, answered, read_of, write_of, after};
 ghost use Rattle.memory.specs.Laws.{memory_lawful};

@@ -1,5 +1,7 @@
 //! The 64 page entries of the memory management unit: how they are rewritten and read, the search for the entry that
 //! an address matches, and the translation of an effective address into a real one.
+#![tactic(auto)]
+
 mod entry;
 mod matching;
 mod table;

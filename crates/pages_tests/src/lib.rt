@@ -1,4 +1,6 @@
 //! Page entries, the search and the translation on values worked out by hand from the rules
+#![tactic(auto)]
+
 #[cfg(test)]
 mod matching;
 #[cfg(test)]

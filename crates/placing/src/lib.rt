@@ -1,4 +1,6 @@
 //! Bytes written to any bus, one after the other.
+#![tactic(auto)]
+
 ghost use Rattle.std.specs.Prelude.{◌≡◌};
 ghost use Rattle.bus.specs.Model.{write_of, after};
 ghost use Rattle.placing.specs.Placing.{located, placed, Tells};

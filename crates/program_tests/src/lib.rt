@@ -1,4 +1,6 @@
 //! Runs the reading of hexadecimal text and the description of records on examples.
+#![tactic(auto)]
+
 #[cfg(test)]
 mod describing;
 #[cfg(test)]

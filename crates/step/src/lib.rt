@@ -1,4 +1,5 @@
 //! One step of a core over any bus, and many.
+#![tactic(auto)]
 
 pub mod answer;
 mod running;

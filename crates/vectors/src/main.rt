@@ -1,4 +1,6 @@
 //! Prints values that are known from the architecture, as the program computes them.
+#![tactic(auto)]
+
 use isa::decode;
 use pages::{Access, Entry, Pages, Translation, VirtualAddress};
 use std::io;

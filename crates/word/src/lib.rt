@@ -1,4 +1,5 @@
 //! Words of 32 bits: the arithmetic of the instructions, as pure functions.
+#![tactic(auto)]
 
 pub mod arithmetic;
 pub mod condition;

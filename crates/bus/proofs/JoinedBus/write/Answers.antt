@@ -13,9 +13,9 @@ returns g c =
     let w = c.args.width in
     let v = c.args.value in
     record {
-      answer = c.write-either.ensures.answer;
-      state = ap (λ m. joined m (g.R.Bus.model c.write-either.new.right)) c.write-either.ensures.left
-          ∙ ap (joined (after l a w v)) c.write-either.ensures.right
+      answer = c.write_either.ensures.answer;
+      state = ap (λ m. joined m (g.R.Bus.model c.write_either.new.right)) c.write_either.ensures.left
+          ∙ ap (joined (after l a w v)) c.write_either.ensures.right
           ∙ joined-after l r (g.L.Bus.lawful c.args.self.now.left) a w v;
       loan = search rules;
     }

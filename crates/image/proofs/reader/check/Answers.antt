@@ -8,8 +8,8 @@ use Rattle.image.proofs.reader.check.Goals as goal
 
 pub loop-count-init : goal.loop-count-init
 loop-count-init c =
-    let opened = c.in-ok-reader.ensures in
-    (sym (ap counted opened.whole) ∙ plus_zero _, omega (arith, small c.args.image.now (place c.in-ok-reader.reader) opened.begins))
+    let opened = c.in_ok-reader.ensures in
+    (sym (ap counted opened.whole) ∙ plus_zero _, omega (arith, small c.args.image.now (place c.in_ok-reader.reader) opened.begins))
 
 pub returns-in-err-reader : goal.returns-in-err-reader
 returns-in-err-reader c =
@@ -17,12 +17,12 @@ returns-in-err-reader c =
     record { counts = rw (p.1, p.2) (ap counted c.in-err-reader.ensures.whole); lawful = law }
 
 pub loop-count-smaller : goal.loop-count-smaller
-loop-count-smaller c = simp c.in-Some.is at c.in-ok-next.ensures.falls
+loop-count-smaller c = simp c.in-Some.is at c.in_ok-next.ensures.falls
 
 pub loop-count-preserved : goal.loop-count-preserved
 loop-count-preserved c =
-    let told = simp c.in-Some.is at c.in-ok-next.ensures.whole in
-    let less = simp c.in-Some.is at c.in-ok-next.ensures.falls in
+    let told = simp c.in-Some.is at c.in_ok-next.ensures.whole in
+    let less = simp c.in-Some.is at c.in_ok-next.ensures.falls in
     (c.loop-count.invariant.0 ∙ ap (λ r. plus c.loop-count.count (counted r)) (sym told) ∙ plus_more _ _ _, omega (arith, less))
 
 pub returns-in-err-next : goal.returns-in-err-next
@@ -33,5 +33,5 @@ returns-in-err-next c =
 
 pub returns : goal.returns
 returns c =
-    let told = simp c.in-default.is at c.in-ok-next.ensures.whole in
+    let told = simp c.in_default.is at c.in_ok-next.ensures.whole in
     record { counts = sym (c.loop-count.invariant.0 ∙ ap (λ r. plus c.loop-count.count (counted r)) (sym told) ∙ ap Ok (omega arith)); lawful = law }

@@ -5,4 +5,4 @@ use Rattle.word.proofs.shift.rotate.Goals as goal
 
 pub returns : goal.returns
 unfolding rotated
-returns c = c.rotate-left.ensures ∙ rotated-by_shifts c.args.x (c.args.amount % 32) (omega arith) (omega arith)
+returns c = c.rotate_left.ensures ∙ rotated-by_shifts c.args.x (c.args.amount % 32) (omega arith) (omega arith)

@@ -47,7 +47,7 @@ returns-in-default c =
 pub returns : goal.returns
 returns c =
     let s : Reader = c.args.self.now in
-    let t : Reader = record { rest = c.in-Some.field-0.after; size = s.size; started = c.is-start-self.result } in
+    let t : Reader = record { rest = c.in-Some.field-0.after; size = s.size; started = c.is_start-self.result } in
     let r : Result (Option Record) Refusal = Ok (Some c.in-Some.field-0.«record») in
-    let e : answered r t ≡ step (place s) = simp c.is-start-self.ensures (simp c.in-Some.is at c.in-ok-record.ensures) in
+    let e : answered r t ≡ step (place s) = simp c.is_start-self.ensures (simp c.in-Some.is at c.in_ok-record.ensures) in
     record { steps = e; whole = whole s t r e; falls = falls s t r e; ranges = ranges s t r e }
