@@ -48,8 +48,14 @@ pub fn refuse(rt: &impl Print, refusal: Refusal) -> io::Result<Verdict>
 pub fn end(rt: &HostRuntime, res: io::Result<Verdict>) -> anyhow::Result<()>
     ensures { is_ok result ≡ is_sound res }
 {
-    match rt.report(res)? {
-        Verdict::Sound => Ok(()),
-        Verdict::Faulty => Err(anyhow!("the input is faulty")),
+    match res {
+        Ok(verdict) => match verdict {
+            Verdict::Sound => Ok(()),
+            Verdict::Faulty => Err(anyhow!("the input is faulty")),
+        },
+        Err(error) => {
+            let _ = eprintln!(rt; "Error: {error}");
+            Err(anyhow::Error::from(error))
+        }
     }
 }

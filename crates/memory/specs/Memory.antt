@@ -53,7 +53,7 @@ model_of m = memory m.first m.bytes.now
 -- what is lent to a `Memory`
 abbrev pub slice_of : Memory → Slice
 slice_of m = record {
-  name = m.bytes.name;
+  name = m.bytes.ghost_name;
   first = m.first;
   size = length m.bytes.now;
   rest = outside m.first m.bytes.now;

@@ -2,10 +2,10 @@ use Rattle.std.proofs.Common.{◌≡◌, ◌+◌, ◌++◌, drop, vec_items, sym
 use Rattle.hexadecimal.specs.Text.{digits, pairs}
 use Rattle.hexadecimal.proofs.Pairing.{held, digits_more, digits_skip, digits_all, pairs_push, pairs_end}
 use Rattle.hexadecimal.proofs.gather.Goals as goal
-use Rattle.hexadecimal.proofs.gather.Goals.{in-Digit+in-None, in-Digit+in-Some+in-ok-push, in-default}
+use Rattle.hexadecimal.proofs.gather.Goals.{in-Digit+in-None, in-Digit+in-Some+in_ok-push-in-Some, in_default}
 
-pub overflow-add-high : goal.overflow-add-high
-overflow-add-high c =
+pub overflow_add-high : goal.overflow_add-high
+overflow_add-high c =
     let high = simp c.in-Some.is at c.loop-character.invariant.0 in
     omega (arith, high, c.in-Digit.ensures.small)
 
@@ -19,12 +19,12 @@ loop-character-preserved c =
       | in-Digit+in-None w ↦
           let d = digits_more text i _ h w.in-Digit.ensures.value in
           simp (w.first-is, w.bytes-is) (w.in-Digit.ensures.small, simp (w.in-None.is, d) at inv.1)
-      | in-Digit+in-Some+in-ok-push w ↦
+      | in-Digit+in-Some+in_ok-push-in-Some w ↦
           let d = digits_more text i _ h w.in-Digit.ensures.value in
-          let items = w.in-ok-push.ensures.items in
+          let items = w.in_ok-push-in-Some.ensures.items in
           simp (w.first-is, w.bytes-is, items) (tt, pairs_push _ _ _ (digits (drop (i + 1) text)) ∙ simp (w.in-Some.is, d) at inv.1)
-      | in-default w ↦
-          let d = digits_skip text i _ h c.classify.ensures.value w.in-default.not-Digit in
+      | in_default w ↦
+          let d = digits_skip text i _ h c.classify.ensures.value w.in_default.not-Digit in
           simp (w.first-is, w.bytes-is) (inv.0, simp d at inv.1)
     ]
 

@@ -22,11 +22,11 @@ loop-next-preserved g c =
     let e : one (item c.in-Some.found) q ≡ step p = simp c.in-Some.is at c.in-Ok-next.ensures.steps in
     accepted (g.B.Bus.model c.args.bus.now) p _ c.loop-next.invariant (item c.in-Some.found) q e (sym c.if-not-accepts.ensures)
 
-pub returns-in-default : goal.returns-in-default
-returns-in-default g c =
+pub returns-in_default : goal.returns-in_default
+returns-in_default g c =
     let p = place c.loop-next.reader in
     let q = place c.next.new.self in
-    let e : end q ≡ step p = simp c.in-default.is at c.in-Ok-next.ensures.steps in
+    let e : end q ≡ step p = simp c.in_default.is at c.in-Ok-next.ensures.steps in
     ended (g.B.Bus.model c.args.bus.now) p _ c.loop-next.invariant q e
 
 pub returns-in-Err-next : goal.returns-in-Err-next

@@ -4,7 +4,7 @@ use Rattle.flags.proofs.Pages.{page-read}
 
 pub returns-in-None : goal.returns-in-None
 returns-in-None c = record {
-  answer = ap Ok c.word-at.ensures
+  answer = ap Ok c.word_at.ensures
       ∙ page-read c.args.self.now.frame c.args.self.now.flags c.args.self.now.enable c.args.address c.args.width (search rules);
   state = search rules;
 }

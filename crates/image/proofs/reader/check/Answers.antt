@@ -11,10 +11,10 @@ loop-count-init c =
     let opened = c.in_ok-reader.ensures in
     (sym (ap counted opened.whole) ∙ plus_zero _, omega (arith, small c.args.image.now (place c.in_ok-reader.reader) opened.begins))
 
-pub returns-in-err-reader : goal.returns-in-err-reader
-returns-in-err-reader c =
-    let p = err_from_is_err_and c.from-residual.result c.from-residual.ensures.1 in
-    record { counts = rw (p.1, p.2) (ap counted c.in-err-reader.ensures.whole); lawful = law }
+pub returns-in_err-reader : goal.returns-in_err-reader
+returns-in_err-reader c =
+    let p = err_from_is_err_and c.from_residual.result c.from_residual.ensures.1 in
+    record { counts = rw (p.1, p.2) (ap counted c.in_err-reader.ensures.whole); lawful = law }
 
 pub loop-count-smaller : goal.loop-count-smaller
 loop-count-smaller c = simp c.in-Some.is at c.in_ok-next.ensures.falls
@@ -25,10 +25,10 @@ loop-count-preserved c =
     let less = simp c.in-Some.is at c.in_ok-next.ensures.falls in
     (c.loop-count.invariant.0 ∙ ap (λ r. plus c.loop-count.count (counted r)) (sym told) ∙ plus_more _ _ _, omega (arith, less))
 
-pub returns-in-err-next : goal.returns-in-err-next
-returns-in-err-next c =
-    let p = err_from_is_err_and c.from-residual-in-err-next.result c.from-residual-in-err-next.ensures.1 in
-    let told = c.in-err-next.ensures.whole in
+pub returns-in_err-next : goal.returns-in_err-next
+returns-in_err-next c =
+    let p = err_from_is_err_and c.from_residual-in_err-next.result c.from_residual-in_err-next.ensures.1 in
+    let told = c.in_err-next.ensures.whole in
     record { counts = rw (p.1, p.2) (sym (c.loop-count.invariant.0 ∙ ap (λ r. plus c.loop-count.count (counted r)) (sym told))); lawful = law }
 
 pub returns : goal.returns

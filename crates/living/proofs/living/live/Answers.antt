@@ -27,9 +27,9 @@ loop-command-preserved g c =
     let r = c.obey-next.result.1 in
     let e : responded r new ≡ obeyed old (get_or cs i d) = c.obey-next.ensures ∙ ap (obeyed old) c.command-item.is in
     let inv = c.loop-command.invariant in
-    let pushed = c.push-reserved.ensures in (
+    let pushed = c.push_reserved.ensures in (
       (pushed.len ∙ ap (λ n. n + 1) inv.0.0, subst (λ n. length cs ≤ n) (sym pushed.capacity) inv.0.1),
-      responses-more cs i d c.loop-command-test.true old new r e (vec_items c.loop-command.answers) (vec_items c.push-reserved.new.self) pushed.items
+      responses-more cs i d c.loop-command-test.true old new r e (vec_items c.loop-command.answers) (vec_items c.push_reserved.new.self) pushed.items
           ∙ inv.1,
       lived-more cs i d c.loop-command-test.true old new r e ∙ inv.2,
       way-more old new (get_or cs i d) r e inv.3,

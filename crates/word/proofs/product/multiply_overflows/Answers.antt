@@ -1,6 +1,5 @@
-use Rattle.std.proofs.Common.{rules}
 use Rattle.word.proofs.Products.{overflow_exact}
 use Rattle.word.proofs.product.multiply_overflows.Goals as goal
 
-pub returns : goal.returns
-returns c = record { is = search rules; exact = overflow_exact }
+pub returns-clause-exact : goal.returns-clause-exact
+returns-clause-exact c = overflow_exact

@@ -5,9 +5,9 @@ use Rattle.cpu.proofs.registers.Working.perform.Goals as goal
 pub returns : goal.returns
 unfolding effect
 returns c =
-    let e = c.perform-format.ensures in
+    let e = c.perform_format.ensures in
     record {
       same = e.same;
       waits = e.waits;
-      kept = λ h. deed_kept c.perform-format.result _ _ _ e.same e.waits (kept c.args.instruction c.args.self.now c.args.shown.now h) h;
+      kept = λ h. deed_kept c.perform_format.result _ _ _ e.same e.waits (kept c.args.instruction c.args.self.now c.args.shown.now h) h;
     }

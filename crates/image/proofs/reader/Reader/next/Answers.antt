@@ -30,18 +30,18 @@ module _ (s t : Reader) where
   ranges (Ok None) e = tt
   ranges (Err x) e = tt
 
-pub returns-in-err-record : goal.returns-in-err-record
-returns-in-err-record c =
-    let r : Result (Option Record) Refusal = c.from-residual.result in
-    let p = err_from_is_err_and r c.from-residual.ensures.1 in
+pub returns-in_err-record : goal.returns-in_err-record
+returns-in_err-record c =
+    let r : Result (Option Record) Refusal = c.from_residual.result in
+    let p = err_from_is_err_and r c.from_residual.ensures.1 in
     let s : Reader = c.args.self.now in
-    let e : answered r s ≡ step (place s) = rw (p.1, p.2) c.in-err-record.ensures in
+    let e : answered r s ≡ step (place s) = rw (p.1, p.2) c.in_err-record.ensures in
     record { steps = e; whole = whole s s r e; falls = falls s s r e; ranges = ranges s s r e }
 
-pub returns-in-default : goal.returns-in-default
-returns-in-default c =
+pub returns-in_default : goal.returns-in_default
+returns-in_default c =
     let s : Reader = c.args.self.now in
-    let e : answered (Ok None) s ≡ step (place s) = simp c.in-default.is at c.in-ok-record.ensures in
+    let e : answered (Ok None) s ≡ step (place s) = simp c.in_default.is at c.in_ok-record.ensures in
     record { steps = e; whole = whole s s (Ok None) e; falls = tt; ranges = tt }
 
 pub returns : goal.returns

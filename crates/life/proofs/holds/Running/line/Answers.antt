@@ -6,4 +6,4 @@ use Rattle.life.proofs.holds.Running.line.Goals as goal
 
 pub returns : goal.returns
 unfolding called
-returns c = λ m. ap (λ (k : Machine). replied Done (running (record { machine = k; bus = m }))) c.set-line.ensures
+returns c = λ m. ap (λ (k : Machine). replied Done (running (record { machine = k; bus = m }))) c.set_line.ensures
