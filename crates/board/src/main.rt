@@ -13,6 +13,7 @@ use flags::FlagPage;
 use image::Reader;
 use memory::Memory;
 use std::io;
+use std::process::ExitCode;
 
 const USAGE: &str = "\
 usage: board < IMAGE
@@ -31,8 +32,12 @@ const FLAG_FRAME: u64 = 64;
 
 const FIRST_FLAGS: u32 = 0xD;
 
-fn main(rt: HostRuntime) -> anyhow::Result<()> {
-    console::end(&rt, run(&rt))
+fn main(rt: HostRuntime) -> ExitCode {
+    if console::end(&rt, run(&rt)).is_ok() {
+        ExitCode::SUCCESS
+    } else {
+        ExitCode::FAILURE
+    }
 }
 
 fn run(rt: &HostRuntime) -> io::Result<Verdict> {

@@ -76,6 +76,7 @@ pub const SHOWN: Shown = Shown {
 
 #[derive(Clone, Copy)]
 struct Row<'a> {
+    text: &'a str,
     word: u32,
     given: &'a str,
     deed: &'a str,
@@ -85,7 +86,7 @@ struct Row<'a> {
 /// Runs every row of a table.
 pub fn run(rt: &impl Abort, heap: Global, rows: &[&str]) -> Result<(), Fail> {
     for text in rows {
-        run_row(rt, heap, split(text)?).note(text)?;
+        run_row(rt, heap, split(text)?)?;
     }
     Ok(())
 }
@@ -96,6 +97,7 @@ fn split<'a>(text: &'a str) -> Result<Row<'a>, Fail> {
     let (deed, gives) = rest.split_once(" | ").ok_or("no result")?;
     let (word, _) = code.split_once(' ').ok_or("no instruction")?;
     Ok(Row {
+        text,
         word: u32::from_str_radix(word, 16)?,
         given,
         deed,
@@ -110,7 +112,7 @@ fn run_row(rt: &impl Abort, heap: Global, row: Row<'_>) -> Result<(), Fail> {
     let mut working = expected;
     let deed = working.perform(&SHOWN, instruction);
     if !matches!(deed, Deed::Finished) {
-        same(rt, &working, &expected);
+        same(rt, row.text, &working, &expected);
     }
     if goes_on(deed) {
         expected.pc = expected.pc.wrapping_add(4);
@@ -120,9 +122,9 @@ fn run_row(rt: &impl Abort, heap: Global, row: Row<'_>) -> Result<(), Fail> {
         Some((left, value)) => (left, u32::from_str_radix(value, 16)?),
         None => (row.deed, 0),
     };
-    assert_eq!(rt; described(heap, deed)?.as_str(), left);
+    assert_eq!(rt; described(heap, deed)?.as_str(), left, "{}", row.text);
     end(&mut working, deed, value);
-    same(rt, &working, &expected);
+    same(rt, row.text, &working, &expected);
     Ok(())
 }
 
@@ -184,17 +186,17 @@ fn xer(word: u32) -> Xer {
     }
 }
 
-/// Whether all registers agree.
-pub fn same(rt: &impl Abort, found: &Working, expected: &Working) {
-    assert_eq!(rt; found.gpr, expected.gpr);
-    assert_eq!(rt; found.cr, expected.cr);
-    assert_eq!(rt; found.xer.so, expected.xer.so);
-    assert_eq!(rt; found.xer.ov, expected.xer.ov);
-    assert_eq!(rt; found.xer.ca, expected.xer.ca);
-    assert_eq!(rt; found.xer.count, expected.xer.count);
-    assert_eq!(rt; found.lr, expected.lr);
-    assert_eq!(rt; found.ctr, expected.ctr);
-    assert_eq!(rt; found.usprg0, expected.usprg0);
-    assert_eq!(rt; found.pc, expected.pc);
-    assert_eq!(rt; found.reserved, expected.reserved);
+/// Whether all registers agree; the text says after what.
+pub fn same(rt: &impl Abort, text: &str, found: &Working, expected: &Working) {
+    assert_eq!(rt; found.gpr, expected.gpr, "{text}");
+    assert_eq!(rt; found.cr, expected.cr, "{text}");
+    assert_eq!(rt; found.xer.so, expected.xer.so, "{text}");
+    assert_eq!(rt; found.xer.ov, expected.xer.ov, "{text}");
+    assert_eq!(rt; found.xer.ca, expected.xer.ca, "{text}");
+    assert_eq!(rt; found.xer.count, expected.xer.count, "{text}");
+    assert_eq!(rt; found.lr, expected.lr, "{text}");
+    assert_eq!(rt; found.ctr, expected.ctr, "{text}");
+    assert_eq!(rt; found.usprg0, expected.usprg0, "{text}");
+    assert_eq!(rt; found.pc, expected.pc, "{text}");
+    assert_eq!(rt; found.reserved, expected.reserved, "{text}");
 }

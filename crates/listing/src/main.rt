@@ -5,6 +5,7 @@ use console::Verdict;
 use describe::{Count, Described};
 use image::Reader;
 use std::io;
+use std::process::ExitCode;
 
 const USAGE: &str = "\
 usage: listing < IMAGE
@@ -12,8 +13,12 @@ Lists a firmware image, which stands as hexadecimal text on standard input.
 White space is free. The status is 0 for a sound image, and 1 for another.
 ";
 
-fn main(rt: HostRuntime) -> anyhow::Result<()> {
-    console::end(&rt, run(&rt))
+fn main(rt: HostRuntime) -> ExitCode {
+    if console::end(&rt, run(&rt)).is_ok() {
+        ExitCode::SUCCESS
+    } else {
+        ExitCode::FAILURE
+    }
 }
 
 fn run(rt: &HostRuntime) -> io::Result<Verdict> {

@@ -1,6 +1,7 @@
 //! What an access to an address gets.
 use crate::setup::*;
 use pages::{Access, Pages, Translation, VirtualAddress};
+use std::test::Fail;
 
 /// SIZE, the first address of the page of that size around 0x12345400 and the real one that it is taken to by an entry
 /// with RPN 0xABCDEC00 and ERPN 7, and the last address of the page with its real one.

@@ -1,9 +1,5 @@
 use Rattle.core465.proofs.Entries.{all_kept, each_kept}
 use Rattle.core465.proofs.machine.Core.write_entry.Goals as goal
 
-pub invariant-of-self : goal.invariant-of-self
-invariant-of-self c =
-    let k = c.args.self.now in (
-      k.working_kept,
-      (k.saved_kept, (k.task_kept, (k.vectors_kept, (each_kept _ (c.write.ensures.kept (all_kept _ k.entries_kept)), tt)))),
-    )
+pub invariant_of-self-clause-entries_kept : goal.invariant_of-self-clause-entries_kept
+invariant_of-self-clause-entries_kept c = each_kept _ (c.write.ensures.kept (all_kept _ c.args.self.now.entries_kept))
