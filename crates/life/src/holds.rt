@@ -33,14 +33,14 @@ impl Stopped {
 
     /// Loads a firmware image: page entries, bytes, counter and MSR. It is checked whole first.
     pub fn load<B: Bus>(&mut self, bus: &mut B, image: &[u8]) -> Result<(), Refusal>
-        ensures { replied (replies.Load result) (stopped (state_of self.new.core (model bus.new))) ≡ called (stopped (state_of self.old.core (model bus.old))) (Lives.load image.now) }
+        ensures { replied (replies.Load result) (stopped (state_of self.new.core (B.Bus.model bus.new))) ≡ called (stopped (state_of self.old.core (B.Bus.model bus.old))) (Lives.load image.now) }
     {
         loader::load(&mut self.core, bus, image)
     }
 
     /// The value of the `width` bytes from a real address on.
     pub fn look<B: Bus>(&self, bus: &B, address: u64, width: u32) -> Result<u32, LookRefusal>
-        ensures { replied (replies.Look result) (stopped (state_of self.now.core (model bus.now))) ≡ called (stopped (state_of self.now.core (model bus.now))) (Lives.look address width) }
+        ensures { replied (replies.Look result) (stopped (state_of self.now.core (B.Bus.model bus.now))) ≡ called (stopped (state_of self.now.core (B.Bus.model bus.now))) (Lives.look address width) }
     {
         service::look(bus, address, width)
     }
@@ -85,14 +85,14 @@ impl Stopped {
 impl Running {
     /// One step.
     pub fn step<B: Bus>(&mut self, bus: &mut B) -> Answer
-        ensures { replied (replies.Step result) (running (state_of self.new.core (model bus.new))) ≡ called (running (state_of self.old.core (model bus.old))) (drive Lives.step) }
+        ensures { replied (replies.Step result) (running (state_of self.new.core (B.Bus.model bus.new))) ≡ called (running (state_of self.old.core (B.Bus.model bus.old))) (drive Lives.step) }
     {
         step::step(&mut self.core, bus)
     }
 
     /// Up to `n` steps, ended by an interrupt or a bus fault.
     pub fn run<B: Bus>(&mut self, bus: &mut B, n: u32) -> Result<Ran, RunRefusal>
-        ensures { replied (replies.Run result) (running (state_of self.new.core (model bus.new))) ≡ called (running (state_of self.old.core (model bus.old))) (drive (Lives.run n)) }
+        ensures { replied (replies.Run result) (running (state_of self.new.core (B.Bus.model bus.new))) ≡ called (running (state_of self.old.core (B.Bus.model bus.old))) (drive (Lives.run n)) }
     {
         step::run(&mut self.core, bus, n)
     }

@@ -20,7 +20,7 @@ pub(crate) enum Held {
 
 /// Shows something of a core or its bus.
 fn display<B: Bus>(core: &Core, bus: &B, what: Display) -> Response
-    ensures { result ≡ displayed (state_of core.now (model bus.now)) what }
+    ensures { result ≡ displayed (state_of core.now (B.Bus.model bus.now)) what }
 {
     match what {
         Display::Registers => Response::Registers(Registers {
@@ -35,7 +35,7 @@ fn display<B: Bus>(core: &Core, bus: &B, what: Display) -> Response
 
 /// A call on a stopped core.
 fn on_stopped<B: Bus>(mut core: Stopped, bus: &mut B, call: &StoppedCall) -> (Held, Response)
-    ensures { responded result.1 (standing_of result.0 (model bus.new)) ≡ by_call (called (stopped (state_of core.core (model bus.old))) (stopped_call call.now)) }
+    ensures { responded result.1 (standing_of result.0 (B.Bus.model bus.new)) ≡ by_call (called (stopped (state_of core.core (B.Bus.model bus.old))) (stopped_call call.now)) }
 {
     let reply = match call {
         StoppedCall::Load(image) => Reply::Load(core.load(bus, image.as_slice())),
@@ -56,7 +56,7 @@ fn on_stopped<B: Bus>(mut core: Stopped, bus: &mut B, call: &StoppedCall) -> (He
 
 /// A call on a running core.
 fn on_running<B: Bus>(mut core: Running, bus: &mut B, call: RunningCall) -> (Held, Response)
-    ensures { responded result.1 (standing_of result.0 (model bus.new)) ≡ by_call (called (running (state_of core.core (model bus.old))) (running_call call)) }
+    ensures { responded result.1 (standing_of result.0 (B.Bus.model bus.new)) ≡ by_call (called (running (state_of core.core (B.Bus.model bus.old))) (running_call call)) }
 {
     let reply = match call {
         RunningCall::Step => Reply::Step(core.step(bus)),
@@ -73,7 +73,7 @@ fn on_running<B: Bus>(mut core: Running, bus: &mut B, call: RunningCall) -> (Hel
 impl Held {
     /// Obeys a command.
     pub(crate) fn obey<B: Bus>(self, bus: &mut B, command: &Command) -> (Held, Response)
-        ensures { responded result.1 (standing_of result.0 (model bus.new)) ≡ obeyed (standing_of self (model bus.old)) command.now }
+        ensures { responded result.1 (standing_of result.0 (B.Bus.model bus.new)) ≡ obeyed (standing_of self (B.Bus.model bus.old)) command.now }
     {
         match self {
             Held::Down(core) => match command {

@@ -20,9 +20,9 @@ pub fn live<B: Bus>(
     commands: &[Command],
 ) -> Result<Vec<Response>, AllocError>
     ensures law { Isolation }
-    ensures answers { IfOk result (λ v. v.items ≡ responses commands.now (born (model bus.old))) }
-    ensures leaves { MatchResult result (λ _. model bus.new ≡ bus_of (lived commands.now (born (model bus.old)))) (λ _. model bus.new ≡ model bus.old) }
-    ensures whole { OnOk result (Whole (model bus.old) (model bus.new)) }
+    ensures answers { IfOk result (λ v. v.items ≡ responses commands.now (born (B.Bus.model bus.old))) }
+    ensures leaves { MatchResult result (λ _. B.Bus.model bus.new ≡ bus_of (lived commands.now (born (B.Bus.model bus.old)))) (λ _. B.Bus.model bus.new ≡ B.Bus.model bus.old) }
+    ensures whole { OnOk result (Whole (B.Bus.model bus.old) (B.Bus.model bus.new)) }
 {
     let mut answers = match Vec::with_capacity(heap, commands.len()) {
         Ok(answers) => answers,

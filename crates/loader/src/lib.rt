@@ -18,7 +18,7 @@ use placing::place;
 /// Whether the bus serves the write of each of these bytes, from the address on.
 fn serves<B: Bus>(bus: &B, address: u64, bytes: &[u8]) -> bool
     requires { address < 2 ^ 40 }
-    ensures { result ≡ serves (model bus.now) address bytes.now }
+    ensures { result ≡ serves (B.Bus.model bus.now) address bytes.now }
 {
     for k in 0..bytes.len() {
         if bus
@@ -33,7 +33,7 @@ fn serves<B: Bus>(bus: &B, address: u64, bytes: &[u8]) -> bool
 
 /// Whether the bus takes the data of a record, if it has data.
 fn accepts<B: Bus>(bus: &B, found: Record) -> bool
-    ensures { result ≡ accepts (model bus.now) (item found.entry) }
+    ensures { result ≡ accepts (B.Bus.model bus.now) (item found.entry) }
 {
     match found {
         Record::Entry(_) => true,
@@ -48,7 +48,7 @@ fn accepts<B: Bus>(bus: &B, found: Record) -> bool
 
 /// Checks an image against a bus: the first refusal, record by record.
 fn screen<B: Bus>(bus: &B, image: &[u8]) -> Result<(), Refusal>
-    ensures { result ≡ checked (screened (model bus.now) image.now) }
+    ensures { result ≡ checked (screened (B.Bus.model bus.now) image.now) }
 {
     let mut reader = match Reader::open(image) {
         Ok(reader) => reader,
@@ -72,7 +72,7 @@ fn screen<B: Bus>(bus: &B, image: &[u8]) -> Result<(), Refusal>
 /// Loads a record.
 fn apply<B: Bus>(core: &mut Core, bus: &mut B, found: Record)
     requires { InRange (item found) }
-    ensures { state_of core.new (model bus.new) ≡ applied (item found.entry) (state_of core.old (model bus.old)) }
+    ensures { state_of core.new (B.Bus.model bus.new) ≡ applied (item found.entry) (state_of core.old (B.Bus.model bus.old)) }
 {
     match found {
         Record::Entry(page) => {
@@ -101,7 +101,7 @@ fn apply<B: Bus>(core: &mut Core, bus: &mut B, found: Record)
 /// Loads the records that a reader has yet to hand out, of an image that was checked.
 fn apply_all<B: Bus>(core: &mut Core, bus: &mut B, mut reader: Reader)
     requires { is_ok (remaining reader) ≡ true }
-    ensures { state_of core.new (model bus.new) ≡ (loaded_by (remaining reader.entry) (state_of core.old (model bus.old))).state }
+    ensures { state_of core.new (B.Bus.model bus.new) ≡ (loaded_by (remaining reader.entry) (state_of core.old (B.Bus.model bus.old))).state }
 {
     while let Ok(next) = reader.next() {
         let Some(found) = next else {
@@ -114,7 +114,7 @@ fn apply_all<B: Bus>(core: &mut Core, bus: &mut B, mut reader: Reader)
 /// Loads an image: it is checked whole, and where it is refused nothing changes. Else its entries and bytes, its counter and
 /// its MSR are set, and nothing else.
 pub fn load<B: Bus>(core: &mut Core, bus: &mut B, image: &[u8]) -> Result<(), Refusal>
-    ensures does { ◌≡◌ {A = Loaded} (record { answer = result; state = state_of core.new (model bus.new) }) (loaded image.now (state_of core.old (model bus.old))) }
+    ensures does { ◌≡◌ {A = Loaded} (record { answer = result; state = state_of core.new (B.Bus.model bus.new) }) (loaded image.now (state_of core.old (B.Bus.model bus.old))) }
     ensures lawful { LoadingLaw }
 {
     if let Err(refusal) = screen(bus, image) {

@@ -39,7 +39,7 @@ impl LookRefusal {
 
 /// The value of the `width` bytes from a real address on.
 pub fn look<B: Bus>(bus: &B, address: u64, width: u32) -> Result<u32, LookRefusal>
-    ensures { result ≡ looked (read_of (model bus.now) address width) }
+    ensures { result ≡ looked (read_of (B.Bus.model bus.now) address width) }
 {
     match bus.read(address, width) {
         Ok(value) => Ok(value),

@@ -51,7 +51,7 @@ impl Answer {
 
 /// Up to `n` steps, ended by an interrupt or a bus fault. Refuses no step, and more than `MOST_STEPS`.
 pub fn run<B: Bus>(core: &mut Core, bus: &mut B, n: u32) -> Result<Ran, RunRefusal>
-    ensures* { λ r. ⌜ ◌≡◌ {A = Finished} (record { result = r; state = state_of core.new (model bus.new) }) (ran n (state_of core.old (model bus.old))) ⌝ }
+    ensures { ◌≡◌ {A = Finished} (record { result = result; state = state_of core.new (B.Bus.model bus.new) }) (ran n (state_of core.old (B.Bus.model bus.old))) }
 {
     if n == 0 || n > MOST_STEPS {
         return Err(RunRefusal::BadCount);

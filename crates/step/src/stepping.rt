@@ -89,7 +89,7 @@ fn interrupt(core: &mut Core, cause: Cause) -> Answer
 
 /// Makes a load.
 fn load<B: Bus>(core: &mut Core, bus: &B, loading: Loading) -> Answer
-    ensures { outcome result core.new (model bus.now) ≡ enacted (state_of core.old (model bus.now)) (carries (seen (machine_of core.old)) (reach (machine_of core.old)) (model bus.now) (loads loading (machine_of core.old).working)) }
+    ensures { outcome result core.new (B.Bus.model bus.now) ≡ enacted (state_of core.old (B.Bus.model bus.now)) (carries (seen (machine_of core.old)) (reach (machine_of core.old)) (B.Bus.model bus.now) (loads loading (machine_of core.old).working)) }
 {
     let access = DataAccess {
         effective: loading.address,
@@ -110,7 +110,7 @@ fn load<B: Bus>(core: &mut Core, bus: &B, loading: Loading) -> Answer
 
 /// Makes a store.
 fn store<B: Bus>(core: &mut Core, bus: &mut B, storing: Storing) -> Answer
-    ensures { outcome result core.new (model bus.new) ≡ enacted (state_of core.old (model bus.old)) (carries (seen (machine_of core.old)) (reach (machine_of core.old)) (model bus.old) (stores storing (machine_of core.old).working)) }
+    ensures { outcome result core.new (B.Bus.model bus.new) ≡ enacted (state_of core.old (B.Bus.model bus.old)) (carries (seen (machine_of core.old)) (reach (machine_of core.old)) (B.Bus.model bus.old) (stores storing (machine_of core.old).working)) }
 {
     let access = DataAccess {
         effective: storing.address,
@@ -166,7 +166,7 @@ fn carry_out(core: &mut Core, deed: Privileged) -> Answer
 
 /// Carries out an instruction.
 fn execute<B: Bus>(core: &mut Core, bus: &mut B, instruction: Instruction) -> Answer
-    ensures { outcome result core.new (model bus.new) ≡ enacted (state_of core.old (model bus.old)) (carries (seen (machine_of core.old)) (reach (machine_of core.old)) (model bus.old) (effect instruction (seen (machine_of core.old)))) }
+    ensures { outcome result core.new (B.Bus.model bus.new) ≡ enacted (state_of core.old (B.Bus.model bus.old)) (carries (seen (machine_of core.old)) (reach (machine_of core.old)) (B.Bus.model bus.old) (effect instruction (seen (machine_of core.old)))) }
 {
     match core.perform(instruction) {
         Deed::Finished => Answer::Done(None),
@@ -182,7 +182,7 @@ fn execute<B: Bus>(core: &mut Core, bus: &mut B, instruction: Instruction) -> An
 
 /// One step: an external interrupt that is due, or the instruction at the counter.
 pub fn step<B: Bus>(core: &mut Core, bus: &mut B) -> Answer
-    ensures { outcome result core.new (model bus.new) ≡ stepped (state_of core.old (model bus.old)) }
+    ensures { outcome result core.new (B.Bus.model bus.new) ≡ stepped (state_of core.old (B.Bus.model bus.old)) }
 {
     if core.external() {
         return interrupt(core, Cause::ExternalInput);
