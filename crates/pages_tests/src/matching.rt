@@ -1,6 +1,7 @@
 //! Which entry an address matches.
 use crate::setup::*;
 use pages::{Pages, VirtualAddress};
+use std::test::Fail;
 
 /// SIZE, and the first and the last address of the page of that size around 0x12345400.
 const SIZES: [(u32, u32, u32); 8] = [

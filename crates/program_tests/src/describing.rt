@@ -1,11 +1,13 @@
 //! Records and their text, line by line as the rules have it.
 use describe::{Count, Described};
 use image::{PageEntry, Record};
+use std::alloc::AllocGlobal;
+use std::process::Abort;
 use std::test::*;
 
-fn says(rt: &HostRuntime, record: Record, text: &str) -> Result<(), Fail> {
+fn says(rt: &(impl Abort + AllocGlobal), record: Record, text: &str) -> Result<(), Fail> {
     let described = Described(record);
-    assert_eq!(format!(in rt.alloc(); "{described}")?.as_str(), text);
+    assert_eq!(rt; format!(in rt.alloc(); "{described}")?.as_str(), text);
     Ok(())
 }
 
@@ -239,7 +241,7 @@ fn each_bit_of_the_msr_has_its_name(rt: HostRuntime) -> Result<(), Fail> {
 }
 
 fn data_says(
-    rt: &HostRuntime,
+    rt: &(impl Abort + AllocGlobal),
     erpn: u8,
     address: u32,
     bytes: &[u8],
