@@ -1,8 +1,8 @@
 -- Entries that are kept, one by one and all together. Assumes nothing.
-use Rattle.std.proofs.Common.{◌≡◌, ℕ, zero, suc, List, [], ◌∷◌, get_or, refl, ap}
+use Rattle.std.proofs.Common.{zero, suc, List, [], ◌∷◌, get_or, refl, ap}
 use Rattle.std.proofs.ByRecursion.{All-from_get_or}
 use Rattle.pages.specs.declared.entry.Entry.{Entry}
-use Rattle.pages.specs.Entries.{blank, kept_of, Kept, AllKept}
+use Rattle.pages.specs.Entries.{blank, Kept, AllKept}
 use Rattle.core465.specs.Entries.{EntryKept, EntriesKept}
 
 entry_kept : (e : Entry) → Kept e → EntryKept e

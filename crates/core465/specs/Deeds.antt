@@ -1,5 +1,5 @@
 -- What supervisor state does with a privileged deed; none where it names a register that there is not. Assumes nothing.
-use Rattle.std.specs.Prelude.{ℕ, ◌+◌, ◌-◌, ◌*◌, ◌%◌, Bool, true, false, cond, List, set, Some, None, Option, nat_lt, slice_index, slice_set}
+use Rattle.std.specs.Prelude.{ℕ, ◌+◌, ◌*◌, ◌%◌, Bool, true, false, cond, List, Some, None, Option, nat_lt, slice_index, slice_set}
 use Rattle.word.specs.Words.{bit}
 use Rattle.word.specs.Conditions.{with_field}
 use Rattle.cpu.specs.declared.registers.Working.{Working}

@@ -1,5 +1,5 @@
 -- The registers that user state does not see: the bits that they keep. Assumes nothing.
-use Rattle.std.specs.Prelude.{◌≡◌, ℕ, ◌+◌, ◌*◌, ◌/◌, ◌%◌, Bool, true, false, ◌==◌, bit_and, slice_index}
+use Rattle.std.specs.Prelude.{◌≡◌, ℕ, ◌+◌, ◌*◌, ◌/◌, ◌%◌, ◌==◌, bit_and, slice_index}
 use Rattle.word.specs.Words.{bit}
 use Rattle.core465.specs.declared.hidden.Hidden.{Hidden}
 use Rattle.core465.specs.declared.hidden.Mmucr.{Mmucr}

@@ -1,5 +1,5 @@
 -- What an interrupt does to a core. Assumes nothing.
-use Rattle.std.specs.Prelude.{ℕ, Bool, true, false}
+use Rattle.std.specs.Prelude.{false}
 use Rattle.interrupt.specs.declared.Cause.{Cause}
 use Rattle.interrupt.specs.Interrupts.{interrupt_of}
 use Rattle.cpu.specs.declared.registers.Msr.{Msr}

@@ -1,5 +1,5 @@
 -- A core without its bus, as the state that the specification speaks of. Assumes nothing.
-use Rattle.std.specs.Prelude.{ℕ, Bool, true, false, List, replicate}
+use Rattle.std.specs.Prelude.{false, List, replicate}
 use Rattle.cpu.specs.declared.registers.Working.{Working}
 use Rattle.cpu.specs.declared.registers.Shown.{Shown}
 use Rattle.cpu.specs.declared.registers.Msr.{Msr}

@@ -1,5 +1,5 @@
 -- The special purpose registers that only supervisor state knows. Assumes nothing.
-use Rattle.std.specs.Prelude.{ℕ, ◌-◌, ◌%◌, Bool, true, false, cond, ◌&&◌, Some, None, Option, ◌==◌, nat_le, slice_index, slice_set}
+use Rattle.std.specs.Prelude.{ℕ, ◌-◌, ◌%◌, cond, ◌&&◌, Some, None, Option, ◌==◌, nat_le, slice_index, slice_set}
 use Rattle.cpu.specs.Registers.{msr_word, msr_from}
 use Rattle.core465.specs.declared.hidden.Hidden.{Hidden}
 use Rattle.core465.specs.declared.hidden.Saved.{Saved}

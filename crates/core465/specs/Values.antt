@@ -1,7 +1,6 @@
 -- Values known from the architecture, shown of the definitions. Assumes nothing.
-use Rattle.std.specs.Prelude.{◌≡◌, ℕ, Bool, true, false, Some}
+use Rattle.std.specs.Prelude.{◌≡◌, true, false, Some}
 use Rattle.std.specs.Int.Count.{count_leading_zeros}
-use Rattle.word.specs.declared.arithmetic.Outcome.{Outcome}
 use Rattle.word.specs.Shifts.{mask, shifted_algebraic}
 use Rattle.word.specs.Conditions.{field_at}
 use Rattle.isa.specs.declared.instruction.Arithmetic.{Arithmetic}

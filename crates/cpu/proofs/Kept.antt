@@ -1,10 +1,9 @@
 -- Every instruction keeps what every core keeps of its working registers. Assumes nothing.
-use Rattle.std.proofs.Common.{◌≡◌, ℕ, ◌+◌, ◌-◌, ◌*◌, ◌/◌, ◌%◌, ◌^◌, ◌<◌, Bool, true, false, cond, eqb, Some, None, Option, sym, refl, ap, ◌∙◌, subst, arith}
+use Rattle.std.proofs.Common.{◌≡◌, ℕ, ◌*◌, ◌%◌, ◌^◌, Bool, true, false, cond, eqb, Some, None, Option, sym, refl, subst, arith}
 use Rattle.std.proofs.lemmas.Bool.Decides.{nat_tests}
 use Rattle.isa.specs.declared.instruction.Branch.{Branch as BranchFormat}
 use Rattle.isa.specs.declared.instruction.BranchTarget.{BranchTarget}
 use Rattle.isa.specs.declared.instruction.BranchTarget.TheVariants.{Link, Count}
-use Rattle.isa.specs.declared.instruction.BareOp.{BareOp}
 use Rattle.isa.specs.declared.instruction.BareOp.TheVariants.{Rfi, Isync, Msync, Tlbsync}
 use Rattle.isa.specs.declared.instruction.MoveOp.{MoveOp}
 use Rattle.isa.specs.declared.instruction.MoveOp.TheVariants.{Mfcr, Mfmsr, Mtmsr, Wrtee}
@@ -12,7 +11,7 @@ use Rattle.isa.specs.declared.instruction.SpecialOp.{SpecialOp}
 use Rattle.isa.specs.declared.instruction.SpecialOp.TheVariants.{Mfspr, Mtspr}
 use Rattle.isa.specs.declared.instruction.Instruction.{Instruction}
 use Rattle.isa.specs.declared.instruction.Instruction.TheVariants.{Immediate, LogicalImmediate, CompareImmediate, TrapImmediate, Load, Store, Branch, BranchConditional, BranchRegister, SystemCall, Rotate, ConditionLogical, MoveConditionField, Bare, Arithmetic, ArithmeticUnary, MultiplyHigh, Logical, LogicalUnary, ShiftRightImmediate, Select, Compare, Trap, LoadIndexed, StoreIndexed, StoreConditional, MoveFromXer, Move, WriteExternalEnable, MoveToConditionFields, MoveSpecial, TlbWord, TlbSearch, Barrier}
-use Rattle.word.specs.Words.{wrap, extended}
+use Rattle.word.specs.Words.{extended}
 use Rattle.word.specs.Conditions.{traps}
 use Rattle.word.specs.declared.arithmetic.Outcome.{Outcome}
 use Rattle.cpu.specs.declared.registers.Working.{Working}

@@ -1,5 +1,5 @@
 -- What an instruction comes down to, from what user state sees of the registers. Assumes nothing.
-use Rattle.std.specs.Prelude.{◌≡◌, ℕ, ◌/◌, ◌%◌, ◌<◌, Bool, true, false, cond, Some, None, Option, ◌==◌}
+use Rattle.std.specs.Prelude.{◌≡◌, ℕ, ◌/◌, ◌%◌, Bool, false, cond, Some, None, Option, ◌==◌}
 use Rattle.isa.specs.declared.instruction.Offset.TheVariants.{Index}
 use Rattle.isa.specs.declared.instruction.BareOp.{BareOp}
 use Rattle.isa.specs.declared.instruction.BareOp.TheVariants.{Rfi, Isync, Msync, Tlbsync}

@@ -1,5 +1,5 @@
 -- What an instruction on the condition register leaves in the working registers, but for the counter. Assumes nothing.
-use Rattle.std.specs.Prelude.{ℕ, ◌+◌, ◌*◌, Bool, true, false, not, ◌&&◌, ◌||◌}
+use Rattle.std.specs.Prelude.{ℕ, ◌+◌, ◌*◌, Bool, false, not, ◌&&◌, ◌||◌}
 use Rattle.isa.specs.declared.instruction.ConditionOp.{ConditionOp}
 use Rattle.isa.specs.declared.instruction.ConditionOp.TheVariants.{Crand, Crandc, Creqv, Crnand, Crnor, Cror, Crorc, Crxor}
 use Rattle.isa.specs.declared.instruction.ConditionLogical.{ConditionLogical}

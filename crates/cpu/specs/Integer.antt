@@ -1,5 +1,5 @@
 -- What an integer instruction leaves in the working registers, but for the counter. Assumes nothing.
-use Rattle.std.specs.Prelude.{ℕ, ◌+◌, ◌%◌, Bool, true, false, cond, ◌||◌, get_or, set}
+use Rattle.std.specs.Prelude.{ℕ, ◌+◌, ◌%◌, Bool, true, false, cond, ◌||◌}
 use Rattle.isa.specs.declared.instruction.ImmediateOp.{ImmediateOp}
 use Rattle.isa.specs.declared.instruction.ImmediateOp.TheVariants.{Addi, Addis, Addic, AddicRecord, Subfic, Mulli}
 use Rattle.isa.specs.declared.instruction.LogicalImmediateOp.{LogicalImmediateOp}

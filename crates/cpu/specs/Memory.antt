@@ -1,6 +1,6 @@
 -- The loads and stores: their addresses, what is loaded and stored, and what they leave in the working registers once the
 -- access is made. Assumes nothing.
-use Rattle.std.specs.Prelude.{◌≡◌, ℕ, ◌+◌, ◌*◌, ◌%◌, ◌<◌, Bool, true, false, cond, ◌||◌, Some, None, Option}
+use Rattle.std.specs.Prelude.{ℕ, ◌+◌, ◌*◌, ◌%◌, Bool, true, false, cond, ◌||◌, Some, None, Option}
 use Rattle.isa.specs.declared.instruction.Offset.{Offset}
 use Rattle.isa.specs.declared.instruction.Offset.TheVariants.{Displacement, Index}
 use Rattle.isa.specs.declared.instruction.LoadOp.{LoadOp}

@@ -1,5 +1,5 @@
 -- Each record that is read is in range. Assumes nothing.
-use Rattle.std.proofs.Common.{◌≡◌, ℕ, ◌+◌, ◌*◌, ◌/◌, ◌%◌, ◌≤◌, min, Bool, true, false, cond, ◌&&◌, eqb, leb, List, [], ◌∷◌, length, get_or, drop, Ok, Err, Result, refl, ◌∙◌, subst, arith, length-drop}
+use Rattle.std.proofs.Common.{◌≡◌, ℕ, ◌+◌, ◌*◌, ◌/◌, ◌%◌, min, Bool, true, false, cond, ◌&&◌, eqb, leb, List, [], ◌∷◌, length, get_or, drop, Ok, Err, Result, refl, ◌∙◌, subst, arith, length-drop}
 use native.Mathlib.Nat.{min-eq_left}
 use lib.Arith.{bin_ind}
 use lib.Bits.{bit_and, and_step, and_shr, and_mod, and_le_r}

@@ -1,7 +1,6 @@
 -- What one step reads, and that reading from a place on comes to its end. Assumes nothing.
 use Rattle.std.proofs.Common.{◌≡◌, ℕ, zero, suc, ◌+◌, ◌*◌, ◌<◌, ◌≤◌, Bool, true, false, cond, leb, List, [], ◌∷◌, ◌++◌, length, get_or, take, drop, Ok, Err, Result, sym, refl, ap, ◌∙◌, subst, inl, inr, arith, length-append, take-append-drop, length-take-le}
 use Rattle.std.proofs.lemmas.Bool.{leb-true, leb-false, le-leb, cond-true, cond-false}
-use Rattle.std.proofs.lemmas.Bool.Decides.{nat_tests}
 use Rattle.image.specs.declared.refusal.Reason.{Reason}
 use Rattle.image.specs.declared.refusal.Reason.TheVariants.{Truncated}
 use Rattle.image.specs.declared.refusal.Refusal.{Refusal}

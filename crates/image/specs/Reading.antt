@@ -1,5 +1,5 @@
 -- What an image means: the list of its records, or why and where it is refused. Assumes nothing.
-use Rattle.std.specs.Prelude.{ℕ, zero, suc, ◌+◌, ◌-◌, ◌*◌, Bool, true, false, cond, List, [], ◌∷◌, length, take, drop, Ok, Err, Result, ◌==◌, nat_le}
+use Rattle.std.specs.Prelude.{ℕ, zero, suc, ◌+◌, ◌-◌, ◌*◌, Bool, false, cond, List, [], ◌∷◌, length, take, drop, Ok, Err, Result, ◌==◌, nat_le}
 use Rattle.image.specs.declared.refusal.Reason.{Reason}
 use Rattle.image.specs.declared.refusal.Reason.TheVariants.{Size, Version, Truncated, Order}
 use Rattle.image.specs.declared.refusal.Refusal.{Refusal}

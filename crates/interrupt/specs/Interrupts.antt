@@ -1,5 +1,5 @@
 -- The interrupts: numbers, and what each tells of its cause. Assumes nothing.
-use Rattle.std.specs.Prelude.{ℕ, ◌+◌, ◌%◌, ◌^◌, Bool, cond, Some, None, Option}
+use Rattle.std.specs.Prelude.{ℕ, ◌+◌, ◌%◌, ◌^◌, cond, Some, None, Option}
 use Rattle.std.specs.Option.{unwrap_or}
 use Rattle.interrupt.specs.declared.Interrupt.{Interrupt}
 use Rattle.interrupt.specs.declared.Interrupt.TheVariants as told

@@ -1,5 +1,5 @@
 -- What a listed opcode stands for, and the opcode of what is listed. Assumes nothing.
-use Rattle.std.proofs.Common.{◌≡◌, ℕ, ◌+◌, ◌*◌, ◌%◌, Bool, true, false, ◌&&◌, eqb, List, [], ◌∷◌, sym, refl, ap, ◌∙◌}
+use Rattle.std.proofs.Common.{◌≡◌, ℕ, ◌+◌, ◌*◌, ◌%◌, Bool, true, false, ◌&&◌, eqb, List, [], ◌∷◌, refl, ap, ◌∙◌}
 use Rattle.std.proofs.lemmas.Bool.{and_parts, eqb-true}
 use Rattle.isa.specs.Fields.{bit}
 use Rattle.isa.specs.Listed.{find, listed_primary, listed_nineteen, listed_extended, primary_at, nineteen_at, extended_at}
@@ -40,8 +40,6 @@ use Rattle.isa.specs.declared.instruction.TlbWordOp.{TlbWordOp}
 use Rattle.isa.specs.declared.instruction.TlbWordOp.TheVariants.{Tlbre, Tlbwe}
 use Rattle.isa.specs.declared.instruction.Comparison.{Comparison}
 use Rattle.isa.specs.declared.instruction.Comparison.TheVariants.{Signed, Unsigned}
-use Rattle.isa.specs.declared.instruction.BareOp.{BareOp}
-use Rattle.isa.specs.declared.instruction.BareOp.TheVariants.{Rfi, Isync, Msync, Tlbsync}
 use Rattle.isa.specs.declared.table.Primary.{Primary}
 use Rattle.isa.specs.declared.table.Primary.TheVariants as primary
 use Rattle.isa.specs.declared.table.Nineteen.{Nineteen}

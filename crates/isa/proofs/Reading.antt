@@ -1,10 +1,10 @@
 -- What a word reads as is written as that word. Assumes nothing.
-use Rattle.std.proofs.Common.{◌≡◌, ℕ, ◌+◌, ◌*◌, ◌/◌, ◌%◌, ◌^◌, ◌<◌, Bool, true, false, not, ◌&&◌, eqb, ltb, Some, None, Option, sym, refl, ap, ◌∙◌, subst, arith}
+use Rattle.std.proofs.Common.{◌≡◌, ℕ, ◌+◌, ◌*◌, ◌/◌, ◌%◌, ◌^◌, ◌<◌, Bool, true, false, not, ◌&&◌, eqb, ltb, Some, None, Option, refl, ap, subst, arith}
 use Rattle.std.proofs.lemmas.Bool.{and_from, and_parts, eqb-true, lt-ltb, ltb-true, not-true}
 use Rattle.std.proofs.lemmas.Bool.Decides.{nat_tests}
 use Rattle.isa.specs.Fields.{primary_of, first_of, second_of, low_of, third_of, extended_of, last_of, fields_of, bit, given, half_form, extended_form}
 use Rattle.isa.specs.Listed.{primary_at, nineteen_at, extended_at}
-use Rattle.isa.specs.Valid.{load_valid, store_valid, options_valid, branch_valid}
+use Rattle.isa.specs.Valid.{load_valid, store_valid, branch_valid}
 use Rattle.isa.specs.Decoded.{bare, by_nineteen, by_extended, by_primary, decoded}
 use Rattle.isa.specs.Encoded.{encoded}
 use Rattle.isa.specs.Opcodes.{immediate_opcode, logical_immediate_opcode, compare_immediate_opcode, rotate_opcode, load_opcode, store_opcode, branch_extended, condition_extended, bare_opcode, bare_extended, arithmetic_extended, arithmetic_unary_extended, multiply_high_extended, logical_extended, logical_unary_extended, compare_extended, load_extended, store_extended, load_indexed_extended, store_indexed_extended, move_extended, special_extended, tlb_word_extended}

@@ -1,5 +1,5 @@
 -- Nothing is lost, and what a word reads as is in range. Assumes nothing.
-use Rattle.std.proofs.Common.{◌≡◌, ℕ, ◌^◌, ◌<◌, Some, None, Option, refl}
+use Rattle.std.proofs.Common.{◌≡◌, ℕ, ◌^◌, ◌<◌, Some, None, Option}
 use Rattle.isa.specs.declared.instruction.Instruction.{Instruction}
 use Rattle.isa.specs.Decoded.{decoded}
 use Rattle.isa.specs.Lossless.{Lossless}

@@ -1,13 +1,13 @@
 -- What an instruction is written as reads as that instruction, and its fields are in range. Assumes nothing.
-use Rattle.std.proofs.Common.{◌≡◌, ℕ, ◌+◌, ◌*◌, ◌/◌, ◌%◌, ◌^◌, ◌<◌, Bool, true, false, not, ◌&&◌, eqb, ltb, Some, None, Option, sym, refl, ap, ◌∙◌, subst, arith}
-use Rattle.std.proofs.lemmas.Bool.{and_parts, and_from, eq-eqb, ne_eqb, lt-ltb, ltb-true}
-use Rattle.isa.specs.Fields.{primary_of, first_of, second_of, low_of, third_of, extended_of, last_of, fields_of, bit, given, half_form, extended_form}
+use Rattle.std.proofs.Common.{◌≡◌, ℕ, ◌+◌, ◌*◌, ◌/◌, ◌%◌, Bool, true, false, ◌&&◌, eqb, ltb, Some, refl, ap, ◌∙◌, subst, arith}
+use Rattle.std.proofs.lemmas.Bool.{and_parts, eq-eqb, ne_eqb, lt-ltb, ltb-true}
+use Rattle.isa.specs.Fields.{primary_of, low_of, third_of, extended_of, last_of, fields_of, bit, given, half_form, extended_form}
 use Rattle.isa.specs.Listed.{find, listed_extended, primary_at, nineteen_at, extended_at}
 use Rattle.isa.specs.Valid.{load_valid, store_valid, options_valid, branch_valid}
 use Rattle.isa.specs.Decoded.{by_nineteen, by_extended, by_primary, decoded}
 use Rattle.isa.specs.Encoded.{encoded, load_word, store_word}
 use Rattle.isa.specs.Ranges.{InRange, Fives}
-use Rattle.isa.specs.Opcodes.{immediate_opcode, logical_immediate_opcode, compare_immediate_opcode, rotate_opcode, load_opcode, store_opcode, branch_extended, condition_extended, bare_opcode, bare_extended, arithmetic_extended, arithmetic_unary_extended, multiply_high_extended, logical_extended, logical_unary_extended, compare_extended, load_extended, store_extended, load_indexed_extended, store_indexed_extended, move_extended, special_extended, tlb_word_extended}
+use Rattle.isa.specs.Opcodes.{immediate_opcode, logical_immediate_opcode, compare_immediate_opcode, rotate_opcode, load_opcode, store_opcode, branch_extended, condition_extended, arithmetic_extended, arithmetic_unary_extended, multiply_high_extended, logical_extended, logical_unary_extended, compare_extended, load_extended, store_extended, load_indexed_extended, store_indexed_extended, move_extended, special_extended, tlb_word_extended}
 use Rattle.isa.specs.declared.instruction.BareOp.{BareOp}
 use Rattle.isa.specs.declared.instruction.BareOp.TheVariants.{Rfi, Isync, Msync, Tlbsync}
 use Rattle.isa.specs.declared.instruction.Offset.TheVariants.{Displacement, Index}

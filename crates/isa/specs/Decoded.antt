@@ -1,5 +1,5 @@
 -- The instruction that a word stands for, or none where the word is illegal. Assumes nothing.
-use Rattle.std.specs.Prelude.{ℕ, ◌+◌, ◌*◌, ◌/◌, ◌%◌, Bool, true, false, not, ◌&&◌, Some, None, Option, ◌==◌, nat_lt}
+use Rattle.std.specs.Prelude.{ℕ, ◌+◌, ◌*◌, ◌/◌, ◌%◌, Bool, not, ◌&&◌, Some, None, Option, ◌==◌, nat_lt}
 use Rattle.isa.specs.declared.fields.Fields.{Fields}
 use Rattle.isa.specs.Fields.{primary_of, fields_of, given}
 use Rattle.isa.specs.Listed.{primary_at, nineteen_at, extended_at}

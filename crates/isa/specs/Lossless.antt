@@ -1,6 +1,6 @@
 -- Nothing is lost between words and instructions: a word reads as an instruction exactly where the instruction is
 -- written as that word. Assumes nothing.
-use Rattle.std.specs.Prelude.{◌≡◌, ℕ, ◌^◌, ◌<◌, Some, Option}
+use Rattle.std.specs.Prelude.{◌≡◌, ℕ, ◌^◌, ◌<◌, Some}
 use Rattle.isa.specs.declared.instruction.Instruction.{Instruction}
 use Rattle.isa.specs.Decoded.{decoded}
 use Rattle.isa.specs.Encoded.{encoded}

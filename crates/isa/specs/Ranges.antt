@@ -1,5 +1,5 @@
 -- The ranges of the fields of an instruction. Assumes nothing.
-use Rattle.std.specs.Prelude.{◌≡◌, ℕ, ◌<◌, Bool, Some, None, Option}
+use Rattle.std.specs.Prelude.{ℕ, ◌<◌, Some, None, Option}
 use Rattle.isa.specs.declared.instruction.Offset.{Offset}
 use Rattle.isa.specs.declared.instruction.Offset.TheVariants.{Displacement, Index}
 use Rattle.isa.specs.declared.instruction.Instruction.{Instruction}

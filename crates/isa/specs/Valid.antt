@@ -1,5 +1,5 @@
 -- Forms that are illegal though each of their fields is in range. Assumes nothing.
-use Rattle.std.specs.Prelude.{ℕ, ◌/◌, ◌%◌, Bool, true, false, not, ◌&&◌, ◌||◌, ◌==◌}
+use Rattle.std.specs.Prelude.{ℕ, ◌/◌, ◌%◌, Bool, not, ◌&&◌, ◌||◌, ◌==◌}
 use Rattle.isa.specs.declared.instruction.BranchTarget.{BranchTarget}
 use Rattle.isa.specs.declared.instruction.BranchTarget.TheVariants.{Link, Count}
 

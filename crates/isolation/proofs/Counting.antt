@@ -2,7 +2,7 @@
 use Rattle.std.proofs.Common.{◌≡◌, ℕ, zero, suc, ◌+◌, ◌-◌, Bool, true, false, cond, sym, refl, ap, ◌∙◌, subst, inl, inr, add-zero, arith}
 use Rattle.std.proofs.lemmas.Bool.{cond-false}
 use Rattle.step.specs.Steps.{State, Stepped, stepped}
-use Rattle.step.specs.Runs.{ends, ended, ran_on, bad_count, ran}
+use Rattle.step.specs.Runs.{ends, ended, ran_on, bad_count}
 use Rattle.isolation.specs.Moments.{Takes, last, more}
 use Rattle.isolation.specs.Isolation.{RunIsSteps}
 

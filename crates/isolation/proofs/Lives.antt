@@ -1,7 +1,5 @@
 -- From one step to runs, lists of calls and lives.
-use Rattle.std.proofs.Common.{◌≡◌, ℕ, zero, suc, ◌+◌, ◌-◌, Bool, true, false, cond, List, [], ◌∷◌, Ok, Err, sym, refl, ap, ◌∙◌, subst}
-use Rattle.bus.specs.Model.{Model}
-use Rattle.bus.specs.Rules.{Lawful}
+use Rattle.std.proofs.Common.{◌≡◌, ℕ, zero, suc, ◌+◌, ◌-◌, Bool, true, false, cond, List, [], ◌∷◌, Ok, refl, ap, subst}
 use Rattle.cpu.specs.Effects.{Seen}
 use Rattle.core465.specs.Reaching.{Reach}
 use Rattle.step.specs.declared.answer.Answer.{Answer}
@@ -9,7 +7,7 @@ use Rattle.step.specs.declared.answer.Answer.TheVariants.{Done, Interrupt, BusFa
 use Rattle.step.specs.Steps.{State, Stepped, stepped}
 use Rattle.step.specs.Runs.{ends, Finished, ended, ran_on, bad_count}
 use Rattle.life.specs.declared.reply.Reply.TheVariants.{Step, Run}
-use Rattle.life.specs.Lives.{Drive, step, run, line, Driven, driven, bus_of, born}
+use Rattle.life.specs.Lives.{Drive, step, run, line, Driven, driven}
 use Rattle.isolation.specs.Views.{Alike, After, interrupts}
 use Rattle.isolation.specs.Isolation.{Together, met, Isolation}
 use Rattle.isolation.proofs.Steps.{Related, steps_alike, step_kept, step_entered}

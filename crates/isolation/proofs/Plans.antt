@@ -1,6 +1,6 @@
 -- Buses that are the same as far as a reach sees them give one plan, and what a plan may be in user state.
-use Rattle.std.proofs.Common.{◌≡◌, ℕ, ◌%◌, Bool, true, false, cond, eqb, Some, None, Ok, Err, Option, Result, sym, refl, ap, ◌∙◌, subst, ap₂, arith}
-use Rattle.bus.specs.Model.{Model, Bytes, big_endian, answered, read_of, write_of, value_at, written, offset_of, frame_of}
+use Rattle.std.proofs.Common.{◌≡◌, ℕ, Bool, true, false, cond, eqb, Some, None, Ok, Err, Option, Result, refl, ap, ◌∙◌, ap₂, arith}
+use Rattle.bus.specs.Model.{Model, Bytes, big_endian, answered, read_of, write_of, written, offset_of, frame_of}
 use Rattle.bus.specs.declared.Direction.TheVariants.{Read, Write}
 use Rattle.isa.specs.declared.instruction.Instruction.{Instruction}
 use Rattle.isa.specs.Decoded.{decoded}
@@ -19,7 +19,7 @@ use Rattle.core465.specs.Reaching.{Reach, external}
 use Rattle.step.specs.declared.answer.Stored.{Stored}
 use Rattle.step.specs.declared.answer.BusFault.{BusFault}
 use Rattle.step.specs.declared.answer.Layer.{Layer}
-use Rattle.step.specs.Plans.{Plan, works, writes, faults, does, leaves, aligned, fetching, located, goes, loading_at, storing_at, at_real, read_by, reads, write_by, makes, permits, carries, executes, fetches, planned}
+use Rattle.step.specs.Plans.{Plan, works, writes, faults, does, leaves, aligned, fetching, located, goes, loading_at, storing_at, at_real, read_by, write_by, carries, executes, planned}
 use Rattle.isolation.specs.Views.{Leads, Readable, Reached, Storable, SameBus}
 
 no : {A : Type 0} → ◌≡◌ {A = ℕ} 0 1 → A

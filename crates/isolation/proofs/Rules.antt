@@ -1,8 +1,8 @@
 -- No call breaks a bus rule.
-use Rattle.std.proofs.Common.{◌≡◌, ℕ, zero, suc, ◌+◌, ◌-◌, ◌*◌, ◌^◌, Bool, true, false, cond, List, [], ◌∷◌, Some, None, Ok, Err, Option, Result, sym, refl, ap, ◌∙◌, subst}
+use Rattle.std.proofs.Common.{◌≡◌, ℕ, zero, suc, ◌+◌, ◌-◌, ◌*◌, ◌^◌, Bool, true, false, cond, List, [], ◌∷◌, Some, None, Ok, Err, Option, Result, refl, subst}
 use Rattle.std.proofs.lemmas.Bool.{cond_both}
 use Rattle.bus.specs.declared.Direction.TheVariants.{Write}
-use Rattle.bus.specs.Model.{Model, answered, read_of, write_of, written}
+use Rattle.bus.specs.Model.{Model, answered, read_of, written}
 use Rattle.bus.specs.Rules.{Lawful}
 use Rattle.bus.proofs.Models.{after_served}
 use Rattle.bus.proofs.Keeping.{after-lawful}

@@ -1,6 +1,6 @@
 -- The laws of one step.
-use Rattle.std.proofs.Common.{◌≡◌, ℕ, Bool, true, false, cond, eqb, ◌⊎◌, sym, refl, ap, ◌∙◌, subst, ap₂, subst₂, inl, inr, arith, eqb-true}
-use Rattle.bus.specs.Model.{Model, Bytes, written, offset_of, frame_of}
+use Rattle.std.proofs.Common.{◌≡◌, ℕ, Bool, true, false, cond, eqb, ◌⊎◌, sym, refl, ap, ◌∙◌, subst, inl, inr, arith, eqb-true}
+use Rattle.bus.specs.Model.{Bytes, offset_of, frame_of}
 use Rattle.interrupt.specs.declared.Taken.{Taken}
 use Rattle.interrupt.specs.Interrupts.{taken}
 use Rattle.cpu.specs.declared.registers.Msr.{Msr}
@@ -9,10 +9,10 @@ use Rattle.cpu.specs.Effects.{Seen, seen_of}
 use Rattle.core465.specs.Interrupting.{interrupted, entering}
 use Rattle.core465.specs.Reaching.{Reach, seen, reach}
 use Rattle.step.specs.declared.answer.Answer.{Answer}
-use Rattle.step.specs.declared.answer.Answer.TheVariants.{Done, Interrupt, BusFault}
+use Rattle.step.specs.declared.answer.Answer.TheVariants.{Interrupt}
 use Rattle.step.specs.Plans.{Plan, leaves, planned}
 use Rattle.step.specs.Steps.{State, Stepped, interrupting, enacted, stepped}
-use Rattle.isolation.specs.Views.{Storable, SameBus, InUser, Alike, AlikeOut, After, interrupts, uncounted}
+use Rattle.isolation.specs.Views.{Storable, InUser, Alike, After, interrupts}
 use Rattle.isolation.specs.Isolation.{Kept, Entered, OnVector}
 use Rattle.isolation.proofs.Plans.{written_same, plan_same, Fits, work, write, fault, leave, plan_fits}
 

@@ -1,7 +1,6 @@
 -- Two lives on two boards of two frames of plain memory: in frame 0 stand a load and a store, frame 1 is out of reach.
-use Rattle.std.proofs.Common.{◌≡◌, ℕ, suc, ◌+◌, ◌*◌, ◌/◌, ◌%◌, ◌^◌, ◌<◌, ◌≤◌, Bool, true, false, cond, eqb, List, [], ◌∷◌, get_or, replicate, Some, None, Option, unwrap_or, sym, refl, ap, ◌∙◌, subst, arith}
+use Rattle.std.proofs.Common.{◌≡◌, ℕ, ◌+◌, ◌%◌, ◌^◌, ◌<◌, Bool, true, false, cond, eqb, get_or, replicate, Some, None, unwrap_or, sym, refl, ap, ◌∙◌, subst, arith}
 use lib.ListN.{length-replicate}
-use Rattle.std.specs.Option.{option_map}
 use Rattle.std.proofs.lemmas.Bool.Decides.{nat_tests}
 use Rattle.bus.specs.Model.{Model, Bytes, big_endian, frame_of, offset_of}
 use Rattle.bus.specs.Rules.{Lawful, IsWiring, IsFrame}
@@ -14,14 +13,12 @@ use Rattle.isa.specs.declared.instruction.Instruction.TheVariants as instruction
 use Rattle.isa.specs.Listed.{primary_at}
 use Rattle.isa.specs.Decoded.{decoded}
 use Rattle.cpu.specs.Effects.{Seen, effect}
-use Rattle.cpu.specs.Memory.{loading, received, stored}
+use Rattle.cpu.specs.Memory.{loading, received}
 use Rattle.pages.specs.declared.entry.Entry.{Entry as PageEntry}
 use Rattle.pages.specs.declared.matching.VirtualAddress.{VirtualAddress}
 use Rattle.pages.specs.declared.translation.Access.{Access}
 use Rattle.pages.specs.declared.translation.Access.TheVariants.{Fetch, Load, Store}
-use Rattle.pages.specs.declared.translation.Translation.{Translation}
-use Rattle.pages.specs.declared.translation.Translation.TheVariants.{Miss, Denied, Real}
-use Rattle.pages.specs.Entries.{blank}
+use Rattle.pages.specs.declared.translation.Translation.TheVariants.{Miss, Real}
 use Rattle.pages.specs.Matching.{matches, found}
 use Rattle.pages.specs.Tables.{with_entry}
 use Rattle.pages.specs.Translating.{real_of, resolved, translate}

@@ -1,5 +1,5 @@
 -- The steps of lives: alone, and in runs. Assumes nothing.
-use Rattle.std.specs.Prelude.{◌≡◌, ℕ, zero, suc, true, false, ◌⊎◌}
+use Rattle.std.specs.Prelude.{◌≡◌, ℕ, suc, true, false, ◌⊎◌}
 use Rattle.step.specs.Steps.{State, Stepped, stepped}
 use Rattle.step.specs.Runs.{ends, bad_count}
 use Rattle.life.specs.Lives.{running, Life}

@@ -1,6 +1,6 @@
 -- The calls that a core takes, and its lives: a making, and then calls, each beginning where the previous one ended.
 -- Assumes nothing.
-use Rattle.std.specs.Prelude.{◌≡◌, ℕ, Bool, List}
+use Rattle.std.specs.Prelude.{ℕ, Bool, List}
 use Rattle.std.specs.Option.{unwrap_or}
 use Rattle.bus.specs.Model.{Model, read_of}
 use Rattle.bus.specs.Rules.{Lawful}

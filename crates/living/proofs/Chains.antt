@@ -2,7 +2,7 @@
 use Rattle.std.proofs.Common.{◌≡◌, ℕ, ◌+◌, ◌<◌, List, [], ◌∷◌, ◌++◌, length, get_or, drop, sym, refl, ap, ◌∙◌, subst, ap₂, append_assoc}
 use Rattle.std.proofs.lemmas.List.{at_drop_more}
 use Rattle.bus.specs.Model.{Model}
-use Rattle.life.specs.Lives.{Standing, running, stopped, retired, called, stop, retire, From, here, then, bus_of}
+use Rattle.life.specs.Lives.{Standing, running, stopped, retired, called, stop, retire, From, then, bus_of}
 use Rattle.living.specs.declared.command.Command.{Command}
 use Rattle.living.specs.declared.command.Command.TheVariants.{ToStopped, ToRunning, Show}
 use Rattle.living.specs.declared.command.Response.{Response}

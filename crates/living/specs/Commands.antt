@@ -1,9 +1,8 @@
 -- A list of commands, obeyed one after the other by one core. Assumes nothing.
 use Rattle.std.specs.Prelude.{ℕ, List, [], ◌∷◌, Some, None, Ok, Err, vec_items, Option, Result}
-use Rattle.bus.specs.Model.{Model, read_of}
+use Rattle.bus.specs.Model.{read_of}
 use Rattle.pages.specs.Tables.{selected}
-use Rattle.step.specs.Steps.{State, state_of}
-use Rattle.life.specs.declared.reply.Reply.{Reply}
+use Rattle.step.specs.Steps.{State}
 use Rattle.life.specs.Lives as lives
 use Rattle.life.specs.Lives.{Standing, running, stopped, retired, Called, called, drive}
 use Rattle.living.specs.declared.command.StoppedCall.{StoppedCall}

@@ -1,11 +1,11 @@
 -- What passes the check, and what does not.
-use Rattle.std.proofs.Common.{◌≡◌, ℕ, zero, suc, Bool, true, false, cond, ◌⊎◌, List, [], ◌∷◌, length, Ok, Err, Result, sym, refl, ap, ◌∙◌, subst, inl, inr, ⊎_elim, arith}
+use Rattle.std.proofs.Common.{◌≡◌, ℕ, zero, suc, Bool, true, false, cond, ◌⊎◌, List, ◌∷◌, length, Ok, Err, Result, sym, refl, ap, ◌∙◌, subst, inl, inr, ⊎_elim, arith}
 use Rattle.bus.specs.Model.{Model}
 use Rattle.image.specs.declared.refusal.Reason.TheVariants.{Denied}
 use Rattle.image.specs.declared.refusal.Refusal.{Refusal}
 use Rattle.image.specs.Records.{Item}
 use Rattle.image.specs.Reading.{Place, Step, one, end, refused, fault, step, more, after, walk, begin, from, records}
-use Rattle.loader.specs.Loading.{accepts, judged, screen, screened_from, screened}
+use Rattle.loader.specs.Loading.{accepts, judged, screen, screened_from}
 use Rattle.loader.specs.Law.{AllAccepted, LoadingLaw}
 
 abbrev Read : Type 0

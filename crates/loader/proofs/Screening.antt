@@ -1,11 +1,11 @@
 -- The check of an image, one record on and at its end.
-use Rattle.std.proofs.Common.{◌≡◌, ℕ, zero, suc, ◌<◌, Bool, true, false, cond, List, [], ◌∷◌, length, Ok, Err, Result, sym, refl, ap, ◌∙◌, subst, arith}
+use Rattle.std.proofs.Common.{◌≡◌, ℕ, zero, suc, ◌<◌, true, false, cond, List, length, Ok, Err, Result, sym, refl, ap, ◌∙◌, arith}
 use Rattle.bus.specs.Model.{Model}
 use Rattle.image.specs.declared.refusal.Reason.TheVariants.{Denied}
 use Rattle.image.specs.declared.refusal.Refusal.{Refusal}
 use Rattle.image.specs.Reasons.{refusal_at}
 use Rattle.image.specs.Records.{Item}
-use Rattle.image.specs.Reading.{Place, offset_of, Step, one, end, refused, fault, step, more, after}
+use Rattle.image.specs.Reading.{Place, offset_of, one, end, refused, fault, step, more, after}
 use Rattle.image.proofs.Steps.{shorter}
 use Rattle.loader.specs.Loading.{accepts, judged, screen, checked}
 

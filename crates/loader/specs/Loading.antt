@@ -1,5 +1,5 @@
 -- Which images are loaded, and what loading one does. Assumes nothing.
-use Rattle.std.specs.Prelude.{ℕ, zero, suc, ◌+◌, ◌*◌, ◌^◌, Bool, true, false, cond, not, ◌&&◌, List, [], ◌∷◌, length, is_some, Ok, Err, Result}
+use Rattle.std.specs.Prelude.{ℕ, zero, suc, ◌+◌, ◌*◌, ◌^◌, Bool, true, cond, not, ◌&&◌, List, [], ◌∷◌, length, is_some, Ok, Err, Result}
 use Rattle.bus.specs.Model.{Model}
 use Rattle.bus.specs.declared.Direction.TheVariants.{Write}
 use Rattle.image.specs.declared.record.PageEntry.{PageEntry}

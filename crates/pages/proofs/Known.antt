@@ -1,5 +1,4 @@
 -- The translation worked out by hand is what the definitions give.
-use Rattle.std.proofs.Common.{cond}
 use Rattle.std.proofs.lemmas.Bool.{cond-true}
 use Rattle.pages.specs.Matching.{found}
 use Rattle.pages.specs.Translating.{translate}

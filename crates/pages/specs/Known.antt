@@ -2,7 +2,6 @@
 use Rattle.std.specs.Prelude.{◌≡◌, ℕ, Bool, true, false, List, ◌∷◌}
 use Rattle.pages.specs.Translating.{grants, translate}
 use Rattle.pages.specs.declared.entry.Entry.{Entry}
-use Rattle.pages.specs.declared.matching.VirtualAddress.{VirtualAddress}
 use Rattle.pages.specs.declared.translation.Access.{Access}
 use Rattle.pages.specs.declared.translation.Translation.TheVariants.{Real}
 

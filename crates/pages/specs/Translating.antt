@@ -1,5 +1,5 @@
 -- What the entries make of an address.
-use Rattle.std.specs.Prelude.{ℕ, ◌+◌, ◌*◌, ◌/◌, ◌%◌, ◌^◌, ◌<◌, Bool, true, false, cond, List, Some, None, Option, slice_index_or}
+use Rattle.std.specs.Prelude.{ℕ, ◌+◌, ◌*◌, ◌/◌, ◌%◌, ◌^◌, ◌<◌, Bool, cond, List, Some, None, Option, slice_index_or}
 use Rattle.pages.specs.Entries.{blank}
 use Rattle.pages.specs.Matching.{has, page_bytes, found}
 use Rattle.pages.specs.declared.entry.Entry.{Entry}

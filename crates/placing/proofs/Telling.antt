@@ -1,5 +1,5 @@
 -- What the answer tells of the bus. Assumes nothing.
-use Rattle.std.proofs.Common.{◌≡◌, ℕ, zero, suc, ◌+◌, ◌<◌, List, [], ◌∷◌, length, Some, None, Ok, Err, Option, Result, sym, refl, ap, ◌∙◌, subst, arith}
+use Rattle.std.proofs.Common.{◌≡◌, ℕ, zero, suc, ◌+◌, List, [], ◌∷◌, length, Some, None, Ok, Err, Option, Result, sym, refl, ap, ◌∙◌, subst, arith}
 use Rattle.bus.specs.Model.{Model, written}
 use Rattle.bus.specs.declared.Direction.TheVariants.{Write}
 use Rattle.placing.specs.declared.Denied.{Denied}

@@ -1,5 +1,5 @@
 -- Registers and page entries, put from outside. Assumes nothing.
-use Rattle.std.specs.Prelude.{ℕ, ◌%◌, Bool, true, false, cond, ◌&&◌, ◌||◌, Some, None, Ok, Err, Option, Result, ◌==◌, bit_and, nat_le, nat_lt}
+use Rattle.std.specs.Prelude.{ℕ, ◌%◌, Bool, cond, ◌&&◌, ◌||◌, Some, None, Ok, Err, Option, Result, ◌==◌, bit_and, nat_le, nat_lt}
 use Rattle.cpu.specs.Registers.{msr_from, with_gpr, with_pc}
 use Rattle.pages.specs.declared.entry.Entry.{Entry as PageEntry}
 use Rattle.pages.specs.Tables.{with_entry}

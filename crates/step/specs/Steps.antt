@@ -1,5 +1,5 @@
 -- One step of a core on a bus: its plan, enacted. Assumes nothing.
-use Rattle.std.specs.Prelude.{ℕ, Some, None, Option}
+use Rattle.std.specs.Prelude.{Some, None, Option}
 use Rattle.bus.specs.Model.{Model, written}
 use Rattle.interrupt.specs.declared.Cause.{Cause}
 use Rattle.interrupt.specs.declared.Cause.TheVariants.{Program}

@@ -1,5 +1,5 @@
 -- Comparisons, and the fields and bits of the condition register; field 0 and bit 0 are the leftmost. Assumes nothing.
-use Rattle.std.specs.Prelude.{ℕ, ◌+◌, ◌-◌, ◌*◌, ◌/◌, ◌%◌, ◌^◌, Bool, true, false, cond, ◌&&◌, ◌||◌, ◌==◌, bit_and, bit_or, nat_lt}
+use Rattle.std.specs.Prelude.{ℕ, ◌+◌, ◌-◌, ◌*◌, ◌/◌, ◌%◌, ◌^◌, Bool, cond, ◌&&◌, ◌||◌, ◌==◌, bit_and, bit_or, nat_lt}
 use Rattle.word.specs.Words.{wrap, bit, biased, inverted}
 
 -- less 8, greater 4, equal 2

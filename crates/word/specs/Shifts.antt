@@ -1,5 +1,5 @@
 -- Rotations, masks and shifts; bit 0 is the leftmost. Assumes nothing.
-use Rattle.std.specs.Prelude.{ℕ, zero, suc, ◌+◌, ◌-◌, ◌*◌, ◌/◌, ◌%◌, ◌^◌, Bool, true, false, cond, not, ◌&&◌, ◌||◌, ◌==◌, nat_le, nat_lt}
+use Rattle.std.specs.Prelude.{ℕ, zero, suc, ◌+◌, ◌-◌, ◌*◌, ◌/◌, ◌%◌, ◌^◌, Bool, false, cond, not, ◌&&◌, ◌||◌, ◌==◌, nat_le, nat_lt}
 use Rattle.word.specs.declared.arithmetic.Outcome.{Outcome}
 use Rattle.word.specs.Words.{wrap, bit, negative, inverted}
 

@@ -1,5 +1,5 @@
 -- The sum of two words and a carry. Assumes nothing.
-use Rattle.std.specs.Prelude.{ℕ, ◌+◌, ◌^◌, Bool, true, false, ◌||◌, nat_le, nat_lt}
+use Rattle.std.specs.Prelude.{ℕ, ◌+◌, ◌^◌, Bool, ◌||◌, nat_le, nat_lt}
 use Rattle.word.specs.declared.arithmetic.Outcome.{Outcome}
 use Rattle.word.specs.Words.{wrap, bit, biased}
 

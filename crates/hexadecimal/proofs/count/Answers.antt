@@ -1,4 +1,4 @@
-use Rattle.std.proofs.Common.{length, sym, refl, ap, arith}
+use Rattle.std.proofs.Common.{length, refl, ap, arith}
 use Rattle.std.proofs.lemmas.Bool.Decides.{nat_tests}
 use Rattle.hexadecimal.proofs.Pairing.{sound_more, sound-stops, sound_all, digits_more, digits_all}
 use Rattle.hexadecimal.proofs.count.Goals as goal

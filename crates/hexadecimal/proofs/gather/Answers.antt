@@ -1,4 +1,4 @@
-use Rattle.std.proofs.Common.{◌≡◌, ◌+◌, ◌++◌, drop, vec_items, sym, ap, ◌∙◌, arith}
+use Rattle.std.proofs.Common.{◌+◌, ◌++◌, drop, vec_items, sym, ap, ◌∙◌, arith}
 use Rattle.hexadecimal.specs.Text.{digits, pairs}
 use Rattle.hexadecimal.proofs.Pairing.{held, digits_more, digits_skip, digits_all, pairs_push, pairs_end}
 use Rattle.hexadecimal.proofs.gather.Goals as goal

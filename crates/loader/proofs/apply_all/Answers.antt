@@ -1,4 +1,4 @@
-use Rattle.std.proofs.Common.{◌≡◌, true, is_ok, Some, Option, sym, ap, ◌∙◌}
+use Rattle.std.proofs.Common.{◌≡◌, true, is_ok, ap, ◌∙◌}
 use Rattle.image.specs.Readers.{remaining}
 use Rattle.image.specs.Reading.{more}
 use Rattle.image.specs.Values.{item}

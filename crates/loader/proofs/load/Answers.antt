@@ -1,4 +1,3 @@
-use Rattle.std.proofs.Common.{◌≡◌, sym, ap, ◌∙◌}
 use Rattle.image.specs.Readers.{remaining}
 use Rattle.step.specs.Steps.{state_of}
 use Rattle.loader.specs.Loading.{screened, loaded}

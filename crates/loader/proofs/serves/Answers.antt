@@ -1,4 +1,4 @@
-use Rattle.std.proofs.Common.{◌≡◌, ℕ, ◌+◌, true, false, drop, is_some, sym, ap, ◌∙◌, add-zero, add_assoc}
+use Rattle.std.proofs.Common.{ℕ, ◌+◌, drop, is_some, sym, ap, ◌∙◌, add-zero, add_assoc}
 use Rattle.loader.specs.Loading.{serves}
 use Rattle.loader.proofs.Serving.{denied, served, all_served}
 use Rattle.loader.proofs.serves.Goals as goal

@@ -1,4 +1,4 @@
-use Rattle.std.proofs.Common.{◌+◌, ◌-◌, ◌^◌, ◌<◌, ◌≤◌}
+use Rattle.std.proofs.Common.{◌+◌, ◌-◌, ◌^◌, ◌<◌}
 use Rattle.board.proofs.data.read_back.Given as goal
 
 abbrev pub invariant-loop-at : goal.invariant-loop-at

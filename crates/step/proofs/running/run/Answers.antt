@@ -1,7 +1,7 @@
-use Rattle.std.proofs.Common.{◌≡◌, ℕ, ◌-◌, ◌≤◌, true, false, sym, ap, ◌∙◌, arith}
+use Rattle.std.proofs.Common.{◌≡◌, ◌-◌, false, sym, ap, ◌∙◌, arith}
 use Rattle.std.proofs.lemmas.Bool.Decides.{nat_tests}
-use Rattle.step.specs.Steps.{Stepped, outcome, state_of}
-use Rattle.step.specs.Runs.{ends, ended, bad_count, ran_on}
+use Rattle.step.specs.Steps.{outcome, state_of}
+use Rattle.step.specs.Runs.{ended, bad_count, ran_on}
 use Rattle.step.proofs.Counting.{stops, lasts, goes_on, begins}
 use Rattle.step.proofs.running.run.Goals as goal
 use Rattle.step.proofs.running.run.Goals.{then-steps-n-via-then-steps-n, then-steps-n-via-else-steps-n+then-ends}

@@ -1,4 +1,4 @@
-use Rattle.cpu.specs.Effects.{effect, effected}
+use Rattle.cpu.specs.Effects.{effect}
 use Rattle.cpu.proofs.Kept.{kept, deed_kept}
 use Rattle.cpu.proofs.registers.Working.perform.Goals as goal
 

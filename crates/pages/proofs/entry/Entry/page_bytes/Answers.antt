@@ -1,5 +1,4 @@
 use Rattle.std.proofs.Common.{◌≡◌, ℕ, ◌*◌, ◌%◌, ◌^◌, ◌<◌, sym, ap, ◌∙◌, subst}
-use Rattle.pages.specs.Matching.{page_bytes}
 use Rattle.pages.proofs.Sizes.{page_shifted, page_positive}
 use Rattle.pages.proofs.entry.Entry.page_bytes.Goals as goal
 

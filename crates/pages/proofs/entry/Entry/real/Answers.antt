@@ -1,5 +1,4 @@
-use Rattle.std.proofs.Common.{◌≡◌, ℕ, ◌+◌, ◌*◌, ◌/◌, ◌%◌, ◌^◌, ◌<◌, sym, ap, subst, rules}
-use Rattle.pages.specs.Translating.{real_of}
+use Rattle.std.proofs.Common.{ℕ, ◌+◌, ◌*◌, ◌/◌, ◌%◌, ◌^◌, ◌<◌, sym, ap, subst, rules}
 use Rattle.pages.proofs.Sizes.{real_bound}
 use Rattle.pages.proofs.entry.Entry.real.Goals as goal
 
