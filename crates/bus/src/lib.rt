@@ -57,12 +57,12 @@ pub trait Bus {
     /// The code with which an access is denied, or `None` where it is served.
     fn denial(&self, direction: Direction, address: u64, width: u32) -> Option<Code>
         ensures answer { result ≡ (model self.now).wiring.denial direction address width }
-        ensures state { model self.now ≡ model self.now };
+        ensures state { model self.exit.now ≡ model self.entry.now };
 
     /// The big-endian value of the `width` bytes from `address` on, or the code of the denial.
     fn read(&self, address: u64, width: u32) -> Result<u32, Code>
         ensures answer { result ≡ read_of (model self.now) address width }
-        ensures state { model self.now ≡ model self.now };
+        ensures state { model self.exit.now ≡ model self.entry.now };
 
     /// Alters the frame of `address` by its rule, or answers the code of the denial.
     fn write(&mut self, address: u64, width: u32, value: u32) -> Result<(), Code>
