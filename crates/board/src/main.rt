@@ -33,11 +33,7 @@ const FLAG_FRAME: u64 = 64;
 const FIRST_FLAGS: u32 = 0xD;
 
 fn main(rt: HostRuntime) -> ExitCode {
-    if console::end(&rt, run(&rt)).is_ok() {
-        ExitCode::SUCCESS
-    } else {
-        ExitCode::FAILURE
-    }
+    console::status(console::end(&rt, run(&rt)))
 }
 
 fn run(rt: &HostRuntime) -> io::Result<Verdict> {

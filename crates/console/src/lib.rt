@@ -1,13 +1,15 @@
 //! What the programs have in common: an image as hexadecimal text on standard input, and how a program ends.
 #![tactic(auto)]
 
-ghost use Rattle.std.specs.Prelude.{◌≡◌, is_ok, IfOk};
+ghost use Rattle.std.specs.Prelude.{◌≡◌, if◌then◌else◌, is_ok, IfOk};
+ghost use Rattle.std.specs.Process.{exit_status};
 ghost use Rattle.console.specs.Ending.{is_sound};
 
 use anyhow::anyhow;
 use hexadecimal::parse;
 use image::Refusal;
 use std::io::Read;
+use std::process::ExitCode;
 use std::{env, io};
 
 /// What a program found of its input. Where it found a fault, it has printed it.
@@ -43,8 +45,7 @@ pub fn refuse(rt: &impl Print, refusal: Refusal) -> io::Result<Verdict>
     Ok(Verdict::Faulty)
 }
 
-/// How a program ends: with status 0 where its input is sound, and else with status 1. An error of the system is
-/// printed on standard error.
+/// How a program ends: well where its input is sound, and else not. An error of the system is printed on standard error.
 pub fn end(rt: &HostRuntime, res: io::Result<Verdict>) -> anyhow::Result<()>
     ensures { is_ok result ≡ is_sound res }
 {
@@ -57,5 +58,16 @@ pub fn end(rt: &HostRuntime, res: io::Result<Verdict>) -> anyhow::Result<()>
             let _ = eprintln!(rt; "Error: {error}");
             Err(anyhow::Error::from(error))
         }
+    }
+}
+
+/// The status with which a program ends: 0 where it ended well, and else 1.
+pub fn status(ended: anyhow::Result<()>) -> ExitCode
+    ensures { exit_status result ≡ (if is_ok ended then 0 else 1) }
+{
+    if ended.is_ok() {
+        ExitCode::SUCCESS
+    } else {
+        ExitCode::FAILURE
     }
 }

@@ -172,6 +172,10 @@ fn refusals_say_their_reason(rt: HostRuntime) -> Result<(), Fail> {
             Reason::Order,
             "refusal 7 at offset 5: start missing or not last",
         ),
+        (
+            Reason::Denied,
+            "refusal 6 at offset 6: byte of data that the bus denies",
+        ),
     ];
     for (offset, (reason, text)) in texts.iter().enumerate() {
         let said = reason.at(offset).to_string(heap)?;

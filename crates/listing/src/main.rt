@@ -14,11 +14,7 @@ White space is free. The status is 0 for a sound image, and 1 for another.
 ";
 
 fn main(rt: HostRuntime) -> ExitCode {
-    if console::end(&rt, run(&rt)).is_ok() {
-        ExitCode::SUCCESS
-    } else {
-        ExitCode::FAILURE
-    }
+    console::status(console::end(&rt, run(&rt)))
 }
 
 fn run(rt: &HostRuntime) -> io::Result<Verdict> {

@@ -1,6 +1,6 @@
 -- The law above the check of an image. Assumes nothing.
 use Rattle.std.specs.Prelude.{◌≡◌, ℕ, true, ◌⊎◌, List, Ok, Err}
-use Rattle.std.specs.List.{AllByRecursion as All}
+use Rattle.std.specs.List.{AllByRecursion}
 use Rattle.bus.specs.Model.{Model}
 use Rattle.image.specs.declared.refusal.Reason.TheVariants.{Denied}
 use Rattle.image.specs.declared.refusal.Refusal.{Refusal}
@@ -10,7 +10,7 @@ use Rattle.loader.specs.Loading.{accepts, screened}
 
 -- the bus takes the data of every record
 abbrev pub AllAccepted : Model → List Item → Type 0
-AllAccepted m is = All (λ i. accepts m i ≡ true) is
+AllAccepted m is = AllByRecursion (λ i. accepts m i ≡ true) is
 
 pub record LoadingLaw : Type 0 where
   -- the images that are loaded are those that the reader reads and whose data the bus takes
