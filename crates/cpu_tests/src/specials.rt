@@ -83,7 +83,7 @@ fn leaves(
     let mut working = PLAIN;
     let deed = working.perform(&SHOWN, instruction);
     assert_eq!(rt; described(heap, deed)?.as_str(), left);
-    same(rt, "special", &working, expected);
+    same(rt, left, &working, expected);
     Ok(())
 }
 

@@ -20,8 +20,8 @@ joined b e = bit_or (0xFFFFFFFF / 2 ^ b) (0xFFFFFFFF * 2 ^ (31 - e) % 2 ^ 32)
 abbrev by_shifts : ℕ → ℕ → ℕ
 by_shifts b e = cond (leb b e) (met b e) (joined b e)
 
-by_bits : (b e : ℕ) → b < 32 → e < 32 → by_shifts b e ≡ ones_where (between b e) 32
-by_bits b e hb he =
+pub mask_by_shifts : (b e : ℕ) → b < 32 → e < 32 → by_shifts b e ≡ ones_where (between b e) 32
+mask_by_shifts b e hb he =
     let n : ℕ = b * 32 + e in
     let lt : n < 1024 = omega arith in
     let hi : n / 32 ≡ b = omega arith in
@@ -31,7 +31,7 @@ by_bits b e hb he =
 
 -- in order the two shifts meet, and round the end they join
 pub mask_in_order : (b e : ℕ) → b < 32 → e < 32 → b ≤ e → met b e ≡ ones_where (between b e) 32
-mask_in_order b e hb he h = ap (λ (t : Bool). cond t (met b e) (joined b e)) (sym (le-leb b e h)) ∙ by_bits b e hb he
+mask_in_order b e hb he h = ap (λ (t : Bool). cond t (met b e) (joined b e)) (sym (le-leb b e h)) ∙ mask_by_shifts b e hb he
 
 pub mask_round_the_end : (b e : ℕ) → b < 32 → e < 32 → e < b → joined b e ≡ ones_where (between b e) 32
-mask_round_the_end b e hb he h = ap (λ (t : Bool). cond t (met b e) (joined b e)) (sym (lt-leb b e h)) ∙ by_bits b e hb he
+mask_round_the_end b e hb he h = ap (λ (t : Bool). cond t (met b e) (joined b e)) (sym (lt-leb b e h)) ∙ mask_by_shifts b e hb he

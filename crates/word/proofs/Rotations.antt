@@ -16,13 +16,13 @@ stays x n m =
 parts : (x n m : ℕ) → x < 2 ^ (n + m) → bit_or (x * 2 ^ n % 2 ^ (m + n)) (x / 2 ^ m) ≡ x * 2 ^ n % 2 ^ (m + n) + x / 2 ^ m
 parts x n m h = let e = stays x n m in simp e (or_shifted (x % 2 ^ m) n (x / 2 ^ m) (shr_below x n m h))
 
-pub rotated-by_shifts : (x n : ℕ) → x < 2 ^ 32 → n < 32 → bit_or ((x * 2 ^ n) % 2 ^ 32) (x / 2 ^ ((32 - n) % 32)) ≡ turned x n
-rotated-by_shifts x zero hx hn =
+pub rotated_by_shifts : (x n : ℕ) → x < 2 ^ 32 → n < 32 → bit_or ((x * 2 ^ n) % 2 ^ 32) (x / 2 ^ ((32 - n) % 32)) ≡ turned x n
+rotated_by_shifts x zero hx hn =
     let a : x * 1 % 2 ^ 32 ≡ x = omega arith in
     let b : x / 1 ≡ x = omega arith in
     let z : x / 2 ^ 32 ≡ 0 = omega arith in
     simp (a, b, z, or_self) (omega arith)
-rotated-by_shifts x (suc k) hx hn =
+rotated_by_shifts x (suc k) hx hn =
     let m : ℕ = 32 - suc k in
     let w : m + suc k ≡ 32 = omega arith in
     let v : suc k + m ≡ 32 = omega arith in
