@@ -1,3 +1,4 @@
+pub mod Cores
 pub mod Deeds
 pub mod Entries
 pub mod Hidden

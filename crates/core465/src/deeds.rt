@@ -1,7 +1,7 @@
 //! What supervisor state does with a privileged deed.
 ghost use Rattle.std.specs.Prelude.{◌≡◌, Some, None};
 ghost use Rattle.cpu.specs.Known.{Known};
-ghost use Rattle.core465.specs.Machine.{Machine, machine_of, new_machine};
+ghost use Rattle.core465.specs.Machine.{new_machine};
 ghost use Rattle.core465.specs.Deeds.{advanced, giving, with_working, stid_from, with_msr, with_ee, returned, special_of, with_special_of, read_special, write_special, read_entry, write_entry, reported, searched, carried_out};
 ghost use Rattle.core465.specs.Specials.{special_named};
 ghost use Rattle.pages.specs.Matching.{found};
@@ -31,7 +31,7 @@ const NO_MSR: Msr = Msr {
 impl Core {
     /// A new core: zero everywhere, and the line down.
     pub fn new() -> Core
-        ensures { machine_of result ≡ new_machine }
+        ensures { result ≡ new_machine }
     {
         Core {
             working: Working {
@@ -76,14 +76,14 @@ impl Core {
 
     /// To the next instruction.
     fn advance(&mut self)
-        ensures { machine_of self.new ≡ advanced (machine_of self.old) }
+        ensures { self.new ≡ advanced self.old }
     {
         self.working.advance();
     }
 
     /// A word to a general register, and on.
     fn give(&mut self, rt: Register, value: u32)
-        ensures { machine_of self.new ≡ giving rt value (machine_of self.old) }
+        ensures { self.new ≡ giving rt value self.old }
     {
         self.working.set_word(rt, value);
         self.working.advance();
@@ -91,14 +91,14 @@ impl Core {
 
     /// Another MSR.
     fn set_msr(&mut self, msr: Msr)
-        ensures { machine_of self.new ≡ with_msr (machine_of self.old) msr }
+        ensures { self.new ≡ with_msr self.old msr }
     {
         self.shown.msr = msr;
     }
 
     /// rfi.
     fn return_from_interrupt(&mut self)
-        ensures { machine_of self.new ≡ returned (machine_of self.old) }
+        ensures { self.new ≡ returned self.old }
     {
         self.working.pc = self.hidden.saved.srr0;
         self.shown.msr = self.hidden.saved.srr1;
@@ -106,7 +106,7 @@ impl Core {
 
     /// A special purpose register's word.
     pub fn special(&self, register: Special) -> u32
-        ensures { result ≡ special_of register (machine_of self.now) }
+        ensures { result ≡ special_of register self.now }
     {
         match register {
             Special::Sprg(k) if k >= 4 => self.shown.sprg[(k % 4) as usize],
@@ -116,7 +116,7 @@ impl Core {
 
     /// A word to a special purpose register.
     pub fn set_special(&mut self, register: Special, value: u32)
-        ensures { machine_of self.new ≡ with_special_of register value (machine_of self.old) }
+        ensures { self.new ≡ with_special_of register value self.old }
     {
         match register {
             Special::Sprg(k) if k >= 4 => self.shown.sprg[(k % 4) as usize] = value,
@@ -126,7 +126,7 @@ impl Core {
 
     /// mfspr of a privileged number; false where there is no such register.
     fn read_special(&mut self, rt: Register, number: u32) -> bool
-        ensures { Known result (machine_of self.old) (machine_of self.new) (read_special rt (special_named number) (machine_of self.old)) }
+        ensures { Known result self.old self.new (read_special rt (special_named number) self.old) }
     {
         match Special::named(number) {
             Some(register) => {
@@ -140,7 +140,7 @@ impl Core {
 
     /// mtspr of a privileged number; false where there is no such register.
     fn write_special(&mut self, number: u32, value: u32) -> bool
-        ensures { Known result (machine_of self.old) (machine_of self.new) (write_special (special_named number) value (machine_of self.old)) }
+        ensures { Known result self.old self.new (write_special (special_named number) value self.old) }
     {
         match Special::named(number) {
             Some(register) => {
@@ -154,7 +154,7 @@ impl Core {
 
     /// The TID of an entry to STID, where its first word is read.
     fn take_stid(&mut self, word: Word, tid: u32)
-        ensures { machine_of self.new ≡ stid_from word tid (machine_of self.old) }
+        ensures { self.new ≡ stid_from word tid self.old }
     {
         if let Word::PageId = word {
             self.hidden.mmucr.stid = tid % 256;
@@ -163,7 +163,7 @@ impl Core {
 
     /// tlbre; false where there is no such word.
     fn read_entry(&mut self, rt: Register, number: u32, word: u32) -> bool
-        ensures { Known result (machine_of self.old) (machine_of self.new) (read_entry rt number (word_numbered word) (machine_of self.old)) }
+        ensures { Known result self.old self.new (read_entry rt number (word_numbered word) self.old) }
     {
         match Word::numbered(word) {
             Some(word) => {
@@ -178,7 +178,7 @@ impl Core {
 
     /// tlbwe; false where there is no such word.
     fn write_entry(&mut self, number: u32, word: u32, value: u32) -> bool
-        ensures { Known result (machine_of self.old) (machine_of self.new) (write_entry number (word_numbered word) value (machine_of self.old)) }
+        ensures { Known result self.old self.new (write_entry number (word_numbered word) value self.old) }
     {
         match Word::numbered(word) {
             Some(word) => {
@@ -193,7 +193,7 @@ impl Core {
 
     /// Whether an entry was found, to condition field 0.
     fn report(&mut self, rc: bool, hit: bool)
-        ensures { machine_of self.new ≡ with_working (machine_of self.old) (reported rc hit self.old.working) }
+        ensures { self.new ≡ with_working self.old (reported rc hit self.old.working) }
     {
         if rc {
             let field = hit as u32 * 2 + self.working.xer.so as u32;
@@ -203,7 +203,7 @@ impl Core {
 
     /// tlbsx, tlbsx.
     fn search_entries(&mut self, rt: Register, effective: u32, rc: bool)
-        ensures { machine_of self.new ≡ searched rt rc (found self.old.pages.entries (record { space = self.old.hidden.mmucr.sts; pid = self.old.hidden.mmucr.stid; effective = effective })) (machine_of self.old) }
+        ensures { self.new ≡ searched rt rc (found self.old.entries (record { space = self.old.hidden.mmucr.sts; pid = self.old.hidden.mmucr.stid; effective = effective })) self.old }
     {
         let Mmucr { sts, stid } = self.hidden.mmucr;
         let hit = self.pages.search(VirtualAddress {
@@ -220,7 +220,7 @@ impl Core {
 
     /// A privileged deed in supervisor state; false where it names a register that there is not, and then nothing changed.
     pub fn carry_out(&mut self, deed: Privileged) -> bool
-        ensures { Known result (machine_of self.old) (machine_of self.new) (carried_out deed (machine_of self.old)) }
+        ensures { Known result self.old self.new (carried_out deed self.old) }
     {
         match deed {
             Privileged::ReadMsr { rt } => self.give(rt, self.shown.msr.word()),

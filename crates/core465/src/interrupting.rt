@@ -2,7 +2,6 @@
 ghost use Rattle.std.specs.Prelude.{◌≡◌};
 ghost use Rattle.interrupt.specs.Interrupts.{taken};
 ghost use Rattle.core465.specs.Interrupting.{entering, interrupted};
-ghost use Rattle.core465.specs.Machine.{machine_of};
 
 use crate::machine::Core;
 use cpu::registers::Msr;
@@ -26,8 +25,8 @@ fn entering(msr: Msr) -> Msr
 impl Core {
     /// Takes an interrupt: the core goes on at its vector, in supervisor state.
     pub fn interrupt(&mut self, cause: Cause) -> Taken
-        ensures answer { result ≡ taken cause (machine_of self.old).working.pc }
-        ensures after { machine_of self.new ≡ interrupted cause (machine_of self.old) }
+        ensures answer { result ≡ taken cause self.old.working.pc }
+        ensures after { self.new ≡ interrupted cause self.old }
     {
         let counter = self.working.pc;
         let msr = self.shown.msr;

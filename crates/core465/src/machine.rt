@@ -1,7 +1,5 @@
 //! A core's registers and page entries, with what always holds of them.
-ghost use Rattle.cpu.specs.Kept.{Kept};
-ghost use Rattle.core465.specs.Entries.{EntriesKept};
-ghost use Rattle.core465.specs.Hidden.{SavedKept, TaskKept, VectorsKept};
+use std::marker::Model;
 
 use crate::hidden::Hidden;
 use cpu::registers::{Shown, Working};
@@ -15,9 +13,16 @@ pub struct Core {
     pub(crate) shown: Shown,
     pub(crate) hidden: Hidden,
     pub(crate) pages: Pages,
-    ghost working_kept: { Kept working },
-    ghost saved_kept: { SavedKept hidden },
-    ghost task_kept: { TaskKept hidden },
-    ghost vectors_kept: { VectorsKept hidden },
-    ghost entries_kept: { EntriesKept pages.entries },
+}
+
+impl Model for Core {
+    ghost use Rattle.core465.specs.Machine.{Machine, MachineKept};
+
+    ghost Value = { Machine };
+
+    ghost use Rattle.core465.specs.Cores.{machine_of};
+
+    ghost view = { machine_of };
+
+    ghost invariant = { λ c. MachineKept (machine_of c) };
 }

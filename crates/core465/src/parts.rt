@@ -3,7 +3,6 @@ ghost use Rattle.std.specs.Prelude.{◌≡◌};
 ghost use Rattle.cpu.specs.Effects.{effect, effect_of, Waits};
 ghost use Rattle.cpu.specs.Memory.{received, stored, settled};
 ghost use Rattle.core465.specs.Deeds.{with_working};
-ghost use Rattle.core465.specs.Machine.{machine_of};
 ghost use Rattle.core465.specs.Reaching.{seen, external, space_of, reach};
 
 use crate::machine::Core;
@@ -14,21 +13,21 @@ use pages::{Access, Translation, VirtualAddress};
 impl Core {
     /// Whether an external interrupt is due: the line is up, and they are enabled.
     pub fn external(&self) -> bool
-        ensures { result ≡ external (seen (machine_of self.now)) }
+        ensures { result ≡ external (seen self.now) }
     {
         self.shown.line && self.shown.msr.ee
     }
 
     /// Whether the core is in user state.
     pub fn user(&self) -> bool
-        ensures { result ≡ (machine_of self.now).shown.msr.pr }
+        ensures { result ≡ self.now.shown.msr.pr }
     {
         self.shown.msr.pr
     }
 
     /// The program counter.
     pub fn counter(&self) -> u32
-        ensures { result ≡ (machine_of self.now).working.pc }
+        ensures { result ≡ self.now.working.pc }
     {
         self.working.pc
     }
@@ -46,7 +45,7 @@ impl Core {
 
     /// What an access to an effective address gets.
     pub fn translate(&self, access: Access, effective: u32) -> Translation
-        ensures { result ≡ reach (machine_of self.now) access effective }
+        ensures { result ≡ reach self.now access effective }
     {
         let address = VirtualAddress {
             space: self.space(access),
@@ -58,30 +57,30 @@ impl Core {
 
     /// The register part of an instruction: it is done, or what is left to do is told and no register is altered yet.
     pub fn perform(&mut self, instruction: Instruction) -> Deed
-        ensures same { effect_of result (machine_of self.new).working ≡ effect instruction (seen (machine_of self.old)) }
-        ensures waits { Waits result (machine_of self.old).working (machine_of self.new).working }
-        ensures rest { machine_of self.new ≡ with_working (machine_of self.old) (machine_of self.new).working }
+        ensures same { effect_of result self.new.working ≡ effect instruction (seen self.old) }
+        ensures waits { Waits result self.old.working self.new.working }
+        ensures rest { self.new ≡ with_working self.old self.new.working }
     {
         self.working.perform(&self.shown, instruction)
     }
 
     /// A load's end, once its value is there.
     pub fn receive(&mut self, loading: Loading, value: u32)
-        ensures { machine_of self.new ≡ with_working (machine_of self.old) (received loading value (machine_of self.old).working) }
+        ensures { self.new ≡ with_working self.old (received loading value self.old.working) }
     {
         self.working.receive(loading, value);
     }
 
     /// A store's end, once it is made.
     pub fn conclude(&mut self, storing: Storing)
-        ensures { machine_of self.new ≡ with_working (machine_of self.old) (stored storing (machine_of self.old).working) }
+        ensures { self.new ≡ with_working self.old (stored storing self.old.working) }
     {
         self.working.conclude(storing);
     }
 
     /// A conditional store's end: whether it stored.
     pub fn settle(&mut self, stored: bool)
-        ensures { machine_of self.new ≡ with_working (machine_of self.old) (settled stored (machine_of self.old).working) }
+        ensures { self.new ≡ with_working self.old (settled stored self.old.working) }
     {
         self.working.settle(stored);
     }

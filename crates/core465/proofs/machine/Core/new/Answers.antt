@@ -1,14 +1,17 @@
-use Rattle.std.proofs.Common.{refl}
+use Rattle.std.proofs.Common.{refl, rules}
 use Rattle.core465.specs.Machine.{new_machine}
 use Rattle.core465.proofs.Entries.{each_kept}
 use Rattle.core465.proofs.Vectors.{zeros_kept}
 use Rattle.core465.proofs.machine.Core.new.Goals as goal
 
-pub invariant_of-result-clause-vectors_kept : goal.invariant_of-result-clause-vectors_kept
-invariant_of-result-clause-vectors_kept c = (refl, zeros_kept 16)
-
-pub invariant_of-result-clause-entries_kept : goal.invariant_of-result-clause-entries_kept
-invariant_of-result-clause-entries_kept c = each_kept c.empty.result.entries c.empty.ensures.kept
+pub invariant_of-result : goal.invariant_of-result
+invariant_of-result c = record {
+  working = search rules;
+  saved = (refl, refl);
+  task = (refl, refl);
+  vectors = (refl, zeros_kept 16);
+  entries = each_kept c.empty.result.entries c.empty.ensures.kept;
+}
 
 pub returns : goal.returns
 unfolding new_machine
