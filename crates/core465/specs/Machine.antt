@@ -3,11 +3,10 @@ use Rattle.std.specs.Prelude.{false, List, replicate}
 use Rattle.cpu.specs.declared.registers.Working.{Working}
 use Rattle.cpu.specs.declared.registers.Shown.{Shown}
 use Rattle.cpu.specs.declared.registers.Msr.{Msr}
-use Rattle.pages.specs.declared.entry.Entry.{Entry}
-use Rattle.pages.specs.Entries.{blank}
 use Rattle.cpu.specs.Kept.{Kept}
+use Rattle.pages.specs.declared.entry.Entry.{Entry}
+use Rattle.pages.specs.Entries.{blank, AllKept}
 use Rattle.core465.specs.declared.hidden.Hidden.{Hidden}
-use Rattle.core465.specs.Entries.{EntriesKept}
 use Rattle.core465.specs.Hidden.{SavedKept, TaskKept, VectorsKept}
 
 pub record Machine : Type 0 where
@@ -22,7 +21,7 @@ pub record MachineKept (m : Machine) : Type 0 where
   pub saved : SavedKept m.hidden
   pub task : TaskKept m.hidden
   pub vectors : VectorsKept m.hidden
-  pub entries : EntriesKept m.entries
+  pub entries : AllKept m.entries
 
 abbrev pub no_msr : Msr
 no_msr = record { ce = false; ee = false; pr = false; me = false; de = false; is = false; ds = false }

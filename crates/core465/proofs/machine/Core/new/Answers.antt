@@ -1,6 +1,5 @@
 use Rattle.std.proofs.Common.{refl, rules}
 use Rattle.core465.specs.Machine.{new_machine}
-use Rattle.core465.proofs.Entries.{each_kept}
 use Rattle.core465.proofs.Vectors.{zeros_kept}
 use Rattle.core465.proofs.machine.Core.new.Goals as goal
 
@@ -10,7 +9,7 @@ invariant_of-result c = record {
   saved = (refl, refl);
   task = (refl, refl);
   vectors = (refl, zeros_kept 16);
-  entries = each_kept c.empty.result.entries c.empty.ensures.kept;
+  entries = c.empty.ensures.kept;
 }
 
 pub returns : goal.returns
