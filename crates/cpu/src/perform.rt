@@ -11,7 +11,7 @@ use isa::instruction::{
     TlbWord, TlbWordOp,
 };
 use word::condition;
-use word::sign::extend_half;
+use word::sign::extend;
 
 impl Working {
     /// A trap, or the next instruction.
@@ -151,7 +151,7 @@ impl Working {
                 self.trap_if(condition::traps(
                     i.conditions,
                     self.word(i.ra),
-                    extend_half(i.immediate),
+                    extend::<16>(i.immediate),
                 ))
             }
             Instruction::Load(i) => Deed::Load(self.loading(i)),
