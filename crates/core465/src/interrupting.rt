@@ -13,12 +13,9 @@ fn entering(msr: Msr) -> Msr
 {
     Msr {
         ce: msr.ce,
-        ee: false,
-        pr: false,
         me: msr.me,
         de: msr.de,
-        is: false,
-        ds: false,
+        ..Msr::default()
     }
 }
 

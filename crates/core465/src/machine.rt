@@ -1,9 +1,8 @@
 //! A core's registers and page entries, with what always holds of them.
-use std::marker::Model;
-
 use crate::hidden::Hidden;
 use cpu::registers::{Shown, Working};
 use pages::Pages;
+use std::marker::Model;
 
 /// A core: the registers by what user state may do with them, and the page entries. Every register and entry holds only
 /// the bits that it keeps, and the program counter is a multiple of four.

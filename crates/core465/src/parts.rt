@@ -8,7 +8,7 @@ ghost use Rattle.core465.specs.Reaching.{seen, external, space_of, reach};
 use crate::machine::Core;
 use cpu::deed::{Deed, Loading, Storing};
 use isa::instruction::Instruction;
-use pages::{Access, Translation, VirtualAddress};
+use pages::{Access, PageFault, Right, VirtualAddress};
 
 impl Core {
     /// Whether an external interrupt is due: the line is up, and they are enabled.
@@ -38,13 +38,12 @@ impl Core {
     {
         match access {
             Access::Fetch => self.shown.msr.is,
-            Access::Load => self.shown.msr.ds,
-            Access::Store => self.shown.msr.ds,
+            Access::Load | Access::Store => self.shown.msr.ds,
         }
     }
 
-    /// What an access to an effective address gets.
-    pub fn translate(&self, access: Access, effective: u32) -> Translation
+    /// The real address of an access to an effective address.
+    pub fn translate(&self, access: Access, effective: u32) -> Result<u64, PageFault>
         ensures { result ≡ reach self.now access effective }
     {
         let address = VirtualAddress {
@@ -52,7 +51,11 @@ impl Core {
             pid: self.hidden.pid,
             effective,
         };
-        self.pages.translate(address, self.shown.msr.pr, access)
+        let right = Right {
+            user: self.shown.msr.pr,
+            access,
+        };
+        self.pages.translate(address, right)
     }
 
     /// The register part of an instruction: it is done, or what is left to do is told and no register is altered yet.

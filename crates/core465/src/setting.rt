@@ -10,6 +10,7 @@ ghost use Rattle.core465.specs.Setting.{with_line, with_number};
 use crate::machine::Core;
 use crate::special::Special;
 use cpu::registers::Msr;
+use cpu::special::NoSuchRegister;
 use isa::instruction::Register;
 use pages::Entry;
 
@@ -32,7 +33,7 @@ impl Core {
     pub fn set_msr_word(&mut self, word: u32)
         ensures { self.new ≡ with_msr self.old (msr_from word) }
     {
-        self.shown.msr = Msr::from_word(word);
+        self.shown.msr = Msr::from(word);
     }
 
     /// The external line.
@@ -49,21 +50,15 @@ impl Core {
         let _ = self.pages.put(number, entry);
     }
 
-    /// A word to the special purpose register of a number, which keeps what it keeps; false where supervisor state may
-    /// write none of that number, and then nothing changed.
-    pub fn set_numbered(&mut self, number: u32, value: u32) -> bool
+    /// A word to the special purpose register of a number, which keeps what it keeps. Where supervisor state may write none
+    /// of that number, nothing changes.
+    pub fn set_numbered(&mut self, number: u32, value: u32) -> Result<(), NoSuchRegister>
         ensures { Known result self.old self.new (with_number number value self.old) }
     {
-        if self.working.set_special(number, value) {
-            return true;
+        if self.working.set_special(number, value).is_err() {
+            self.set_special(Special::try_from(number)?, value);
         }
-        match Special::named(number) {
-            Some(register) => {
-                self.set_special(register, value);
-                true
-            }
-            None => false,
-        }
+        Ok(())
     }
 
     /// As new.
