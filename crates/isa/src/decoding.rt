@@ -6,7 +6,7 @@ ghost use Rattle.isa.specs.Lossless.{Lossless};
 ghost use Rattle.isa.specs.Ranges.{DecodedInRange};
 
 use crate::fields;
-use crate::fields::{Fields, given};
+use crate::fields::Fields;
 use crate::instruction::*;
 use crate::table::{Extended, Nineteen, Primary, extended_at, nineteen_at, primary_at};
 use crate::valid::{valid_branch, valid_load, valid_options, valid_store};
@@ -23,33 +23,30 @@ fn by_nineteen(form: Nineteen, f: Fields) -> Option<Instruction>
     ensures { result ≡ by_nineteen form f }
 {
     match form {
-        Nineteen::Illegal => None,
-        Nineteen::Branch(target) => given(
-            f.third == 0 && valid_branch(target, f.first),
-            Some(Instruction::BranchRegister(BranchRegister {
+        Nineteen::Branch(target) => (f.third == 0 && valid_branch(target, f.first)).then_some(
+            Instruction::BranchRegister(BranchRegister {
                 target,
                 options: f.first,
                 bit: f.second,
                 link: f.last,
-            })),
+            }),
         ),
-        Nineteen::ConditionLogical(op) => given(
-            !f.last,
-            Some(Instruction::ConditionLogical(ConditionLogical {
+        Nineteen::ConditionLogical(op) => (!f.last).then_some(Instruction::ConditionLogical(
+            ConditionLogical {
                 op,
                 target: f.first,
                 first: f.second,
                 second: f.third,
-            })),
-        ),
-        Nineteen::Bare(op) => given(bare(f), Some(Instruction::Bare { op })),
-        Nineteen::MoveConditionField => given(
-            f.first % 4 == 0 && f.second % 4 == 0 && f.third == 0 && !f.last,
-            Some(Instruction::MoveConditionField(MoveConditionField {
-                to: f.first / 4,
-                from: f.second / 4,
-            })),
-        ),
+            },
+        )),
+        Nineteen::Bare(op) => bare(f).then_some(Instruction::Bare { op }),
+        Nineteen::MoveConditionField => (f.first % 4 == 0
+            && f.second % 4 == 0
+            && f.third == 0
+            && !f.last).then_some(Instruction::MoveConditionField(MoveConditionField {
+            to: f.first / 4,
+            from: f.second / 4,
+        })),
     }
 }
 
@@ -59,7 +56,6 @@ fn by_extended(form: Extended, f: Fields) -> Option<Instruction>
     ensures { result ≡ by_extended form f }
 {
     match form {
-        Extended::Illegal => None,
         Extended::Arithmetic(op, oe) => {
             Some(Instruction::Arithmetic(Arithmetic {
                 op,
@@ -70,15 +66,14 @@ fn by_extended(form: Extended, f: Fields) -> Option<Instruction>
                 rc: f.last,
             }))
         }
-        Extended::ArithmeticUnary(op, oe) => given(
-            f.third == 0,
-            Some(Instruction::ArithmeticUnary(ArithmeticUnary {
+        Extended::ArithmeticUnary(op, oe) => (f.third == 0).then_some(
+            Instruction::ArithmeticUnary(ArithmeticUnary {
                 op,
                 rt: f.first,
                 ra: f.second,
                 oe,
                 rc: f.last,
-            })),
+            }),
         ),
         Extended::MultiplyHigh(op) => {
             Some(Instruction::MultiplyHigh(MultiplyHigh {
@@ -96,15 +91,14 @@ fn by_extended(form: Extended, f: Fields) -> Option<Instruction>
             rb: f.third,
             rc: f.last,
         })),
-        Extended::LogicalUnary(op) => given(
-            f.third == 0,
-            Some(Instruction::LogicalUnary(LogicalUnary {
+        Extended::LogicalUnary(op) => (f.third == 0).then_some(Instruction::LogicalUnary(
+            LogicalUnary {
                 op,
                 ra: f.second,
                 rs: f.first,
                 rc: f.last,
-            })),
-        ),
+            },
+        )),
         Extended::ShiftRightImmediate => {
             Some(Instruction::ShiftRightImmediate(ShiftRightImmediate {
                 ra: f.second,
@@ -113,125 +107,101 @@ fn by_extended(form: Extended, f: Fields) -> Option<Instruction>
                 rc: f.last,
             }))
         }
-        Extended::Select => given(
-            !f.last,
-            Some(Instruction::Select(Select {
-                rt: f.first,
-                ra: f.second,
-                rb: f.third,
-                bit: f.extended / 32,
-            })),
-        ),
-        Extended::Compare(comparison) => given(
-            f.first % 4 == 0 && !f.last,
-            Some(Instruction::Compare(Compare {
+        Extended::Select => (!f.last).then_some(Instruction::Select(Select {
+            rt: f.first,
+            ra: f.second,
+            rb: f.third,
+            bit: f.extended / 32,
+        })),
+        Extended::Compare(comparison) => (f.first % 4 == 0 && !f.last).then_some(
+            Instruction::Compare(Compare {
                 comparison,
                 field: f.first / 4,
                 ra: f.second,
                 rb: f.third,
-            })),
+            }),
         ),
-        Extended::Trap => given(
-            !f.last,
-            Some(Instruction::Trap(Trap {
-                conditions: f.first,
-                ra: f.second,
-                rb: f.third,
-            })),
-        ),
-        Extended::Load(op, update) => given(
-            !f.last && valid_load(update, f.first, f.second),
-            Some(Instruction::Load(Load {
+        Extended::Trap => (!f.last).then_some(Instruction::Trap(Trap {
+            conditions: f.first,
+            ra: f.second,
+            rb: f.third,
+        })),
+        Extended::Load(op, update) => (!f.last && valid_load(update, f.first, f.second)).then_some(
+            Instruction::Load(Load {
                 op,
                 rt: f.first,
                 ra: f.second,
                 offset: Offset::Index(f.third),
                 update,
-            })),
+            }),
         ),
-        Extended::Store(op, update) => given(
-            !f.last && valid_store(update, f.second),
-            Some(Instruction::Store(Store {
+        Extended::Store(op, update) => (!f.last && valid_store(update, f.second)).then_some(
+            Instruction::Store(Store {
                 op,
                 rs: f.first,
                 ra: f.second,
                 offset: Offset::Index(f.third),
                 update,
-            })),
-        ),
-        Extended::LoadIndexed(op) => {
-            given(
-                !f.last,
-                Some(Instruction::LoadIndexed(LoadIndexed {
-                    op,
-                    rt: f.first,
-                    ra: f.second,
-                    rb: f.third,
-                })),
-            )
-        }
-        Extended::StoreIndexed(op) => {
-            given(
-                !f.last,
-                Some(Instruction::StoreIndexed(StoreIndexed {
-                    op,
-                    rs: f.first,
-                    ra: f.second,
-                    rb: f.third,
-                })),
-            )
-        }
-        Extended::StoreConditional => {
-            given(
-                f.last,
-                Some(Instruction::StoreConditional(StoreConditional {
-                    rs: f.first,
-                    ra: f.second,
-                    rb: f.third,
-                })),
-            )
-        }
-        Extended::MoveFromXer => given(
-            f.first % 4 == 0 && f.second == 0 && f.third == 0 && !f.last,
-            Some(Instruction::MoveFromXer { field: f.first / 4 }),
-        ),
-        Extended::Move(op) => given(
-            f.second == 0 && f.third == 0 && !f.last,
-            Some(Instruction::Move(Move {
-                op,
-                register: f.first,
-            })),
-        ),
-        Extended::WriteExternalEnable => given(
-            f.first == 0 && f.second == 0 && f.third % 16 == 0 && !f.last,
-            Some(Instruction::WriteExternalEnable {
-                enable: f.third / 16 == 1,
             }),
         ),
-        Extended::MoveToConditionFields => given(
-            f.second < 16 && f.third % 2 == 0 && !f.last,
-            Some(Instruction::MoveToConditionFields(MoveToConditionFields {
-                mask: f.second * 16 + f.third / 2,
+        Extended::LoadIndexed(op) => {
+            (!f.last).then_some(Instruction::LoadIndexed(LoadIndexed {
+                op,
+                rt: f.first,
+                ra: f.second,
+                rb: f.third,
+            }))
+        }
+        Extended::StoreIndexed(op) => {
+            (!f.last).then_some(Instruction::StoreIndexed(StoreIndexed {
+                op,
                 rs: f.first,
-            })),
-        ),
-        Extended::MoveSpecial(op) => given(
-            !f.last,
-            Some(Instruction::MoveSpecial(MoveSpecial {
+                ra: f.second,
+                rb: f.third,
+            }))
+        }
+        Extended::StoreConditional => {
+            f.last.then_some(Instruction::StoreConditional(StoreConditional {
+                rs: f.first,
+                ra: f.second,
+                rb: f.third,
+            }))
+        }
+        Extended::MoveFromXer => (f.first % 4 == 0
+            && f.second == 0
+            && f.third == 0
+            && !f.last).then_some(Instruction::MoveFromXer { field: f.first / 4 }),
+        Extended::Move(op) => (f.second == 0 && f.third == 0 && !f.last).then_some(
+            Instruction::Move(Move {
                 op,
                 register: f.first,
-                number: f.third * 32 + f.second,
-            })),
+            }),
         ),
-        Extended::TlbWord(op) => given(
-            f.third < 3 && !f.last,
-            Some(Instruction::TlbWord(TlbWord {
+        Extended::WriteExternalEnable => (f.first == 0
+            && f.second == 0
+            && f.third % 16 == 0
+            && !f.last).then_some(Instruction::WriteExternalEnable {
+            enable: f.third / 16 == 1,
+        }),
+        Extended::MoveToConditionFields => (f.second < 16 && f.third % 2 == 0 && !f.last).then_some(
+            Instruction::MoveToConditionFields(MoveToConditionFields {
+                mask: f.second * 16 + f.third / 2,
+                rs: f.first,
+            }),
+        ),
+        Extended::MoveSpecial(op) => (!f.last).then_some(Instruction::MoveSpecial(MoveSpecial {
+            op,
+            register: f.first,
+            number: f.third * 32 + f.second,
+        })),
+        Extended::TlbWord(op) => (f.third < 3 && !f.last).then_some(Instruction::TlbWord(
+            TlbWord {
                 op,
                 register: f.first,
                 ra: f.second,
                 word: f.third,
-            })),
-        ),
+            },
+        )),
         Extended::TlbSearch => {
             Some(Instruction::TlbSearch(TlbSearch {
                 rt: f.first,
@@ -240,11 +210,10 @@ fn by_extended(form: Extended, f: Fields) -> Option<Instruction>
                 rc: f.last,
             }))
         }
-        Extended::Barrier => given(
-            f.second == 0 && f.third == 0 && !f.last,
-            Some(Instruction::Barrier { ordering: f.first }),
+        Extended::Barrier => (f.second == 0 && f.third == 0 && !f.last).then_some(
+            Instruction::Barrier { ordering: f.first },
         ),
-        Extended::Bare(op) => given(bare(f), Some(Instruction::Bare { op })),
+        Extended::Bare(op) => bare(f).then_some(Instruction::Bare { op }),
     }
 }
 
@@ -254,7 +223,6 @@ fn by_primary(form: Primary, word: u32, f: Fields) -> Option<Instruction>
     ensures { result ≡ by_primary form word f }
 {
     match form {
-        Primary::Illegal => None,
         Primary::Immediate(op) => Some(Instruction::Immediate(Immediate {
             op,
             rt: f.first,
@@ -269,14 +237,13 @@ fn by_primary(form: Primary, word: u32, f: Fields) -> Option<Instruction>
                 immediate: f.low,
             }))
         }
-        Primary::CompareImmediate(comparison) => given(
-            f.first % 4 == 0,
-            Some(Instruction::CompareImmediate(CompareImmediate {
+        Primary::CompareImmediate(comparison) => (f.first % 4 == 0).then_some(
+            Instruction::CompareImmediate(CompareImmediate {
                 comparison,
                 field: f.first / 4,
                 ra: f.second,
                 immediate: f.low,
-            })),
+            }),
         ),
         Primary::TrapImmediate => {
             Some(Instruction::TrapImmediate(TrapImmediate {
@@ -294,53 +261,52 @@ fn by_primary(form: Primary, word: u32, f: Fields) -> Option<Instruction>
             end: f.extended % 32,
             rc: f.last,
         })),
-        Primary::Load(op, update) => given(
-            valid_load(update, f.first, f.second),
-            Some(Instruction::Load(Load {
+        Primary::Load(op, update) => valid_load(update, f.first, f.second).then_some(
+            Instruction::Load(Load {
                 op,
                 rt: f.first,
                 ra: f.second,
                 offset: Offset::Displacement(f.low),
                 update,
-            })),
+            }),
         ),
-        Primary::Store(op, update) => given(
-            valid_store(update, f.second),
-            Some(Instruction::Store(Store {
+        Primary::Store(op, update) => valid_store(update, f.second).then_some(Instruction::Store(
+            Store {
                 op,
                 rs: f.first,
                 ra: f.second,
                 offset: Offset::Displacement(f.low),
                 update,
-            })),
-        ),
-        Primary::BranchConditional => given(
-            valid_options(f.first),
-            Some(Instruction::BranchConditional(BranchConditional {
+            },
+        )),
+        Primary::BranchConditional => valid_options(f.first).then_some(
+            Instruction::BranchConditional(BranchConditional {
                 options: f.first,
                 bit: f.second,
                 displacement: f.low / 4,
                 absolute: f.low / 2 % 2 == 1,
                 link: f.last,
-            })),
+            }),
         ),
-        Primary::SystemCall => given(word == 0x4400_0002, Some(Instruction::SystemCall)),
+        Primary::SystemCall => (word == 0x4400_0002).then_some(Instruction::SystemCall),
         Primary::Branch => Some(Instruction::Branch(Branch {
             displacement: word / 4 % 0x100_0000,
             absolute: word / 2 % 2 == 1,
             link: f.last,
         })),
-        Primary::Nineteen => by_nineteen(nineteen_at(f.extended), f),
-        Primary::Extended => by_extended(extended_at(f.extended), f),
+        Primary::Nineteen => by_nineteen(nineteen_at(f.extended)?, f),
+        Primary::Extended => by_extended(extended_at(f.extended)?, f),
     }
 }
 
 /// The instruction of a word, or none where the word is illegal. Nothing is lost: the instruction is written as the
 /// word again, and its fields are in range.
+#[tactic(auto, using(crate::proofs::Round::lossless), unfolding(crate::specs::Decoded::decoded))]
 pub fn decode(word: u32) -> Option<Instruction>
     ensures is { result ≡ decoded word }
     ensures in_range { DecodedInRange result }
     ensures lossless { Lossless }
 {
-    by_primary(primary_at(word / 0x400_0000), word, fields::split(word))
+    let form = primary_at(word / 0x400_0000)?;
+    by_primary(form, word, fields::split(word))
 }

@@ -1,5 +1,7 @@
 //! The instructions of the readout core, one case for each format. Immediates and displacements are the bits of their
 //! field, not yet extended by their sign; `oe` and `rc` are the bits OE and Rc.
+//!
+//! The number of an operation is its extended opcode, without OE and update, or its primary opcode where it has no other.
 
 /// The number of a register, below 32 in every decoded instruction.
 pub type Register = u32;
@@ -7,125 +9,125 @@ pub type Register = u32;
 /// Arithmetic with a 16-bit immediate.
 #[derive(Clone, Copy)]
 pub enum ImmediateOp {
-    Addi,
-    Addis,
-    Addic,
-    AddicRecord,
-    Subfic,
-    Mulli,
+    Addi = 14,
+    Addis = 15,
+    Addic = 12,
+    AddicRecord = 13,
+    Subfic = 8,
+    Mulli = 7,
 }
 
 /// Logic with a 16-bit immediate.
 #[derive(Clone, Copy)]
 pub enum LogicalImmediateOp {
-    AndiRecord,
-    AndisRecord,
-    Ori,
-    Oris,
-    Xori,
-    Xoris,
+    AndiRecord = 28,
+    AndisRecord = 29,
+    Ori = 24,
+    Oris = 25,
+    Xori = 26,
+    Xoris = 27,
 }
 
 /// Arithmetic on two registers, with an overflow form.
 #[derive(Clone, Copy)]
 pub enum ArithmeticOp {
-    Add,
-    Addc,
-    Adde,
-    Subf,
-    Subfc,
-    Subfe,
-    Mullw,
-    Divw,
-    Divwu,
+    Add = 266,
+    Addc = 10,
+    Adde = 138,
+    Subf = 40,
+    Subfc = 8,
+    Subfe = 136,
+    Mullw = 235,
+    Divw = 491,
+    Divwu = 459,
 }
 
 /// Arithmetic on one register, with an overflow form.
 #[derive(Clone, Copy)]
 pub enum ArithmeticUnaryOp {
-    Addme,
-    Addze,
-    Subfme,
-    Subfze,
-    Neg,
+    Addme = 234,
+    Addze = 202,
+    Subfme = 232,
+    Subfze = 200,
+    Neg = 104,
 }
 
 /// The upper half of a product.
 #[derive(Clone, Copy)]
 pub enum MultiplyHighOp {
-    Mulhw,
-    Mulhwu,
+    Mulhw = 75,
+    Mulhwu = 11,
 }
 
 /// Logic and shifts on two registers.
 #[derive(Clone, Copy)]
 pub enum LogicalOp {
-    And,
-    Andc,
-    Nand,
-    Or,
-    Orc,
-    Nor,
-    Xor,
-    Eqv,
-    Slw,
-    Srw,
-    Sraw,
+    And = 28,
+    Andc = 60,
+    Nand = 476,
+    Or = 444,
+    Orc = 412,
+    Nor = 124,
+    Xor = 316,
+    Eqv = 284,
+    Slw = 24,
+    Srw = 536,
+    Sraw = 792,
 }
 
 /// Logic on one register.
 #[derive(Clone, Copy)]
 pub enum LogicalUnaryOp {
-    Extsb,
-    Extsh,
-    Cntlzw,
+    Extsb = 954,
+    Extsh = 922,
+    Cntlzw = 26,
 }
 
 /// Rotations under a mask.
 #[derive(Clone, Copy)]
 pub enum RotateOp {
-    Rlwimi,
-    Rlwinm,
-    Rlwnm,
+    Rlwimi = 20,
+    Rlwinm = 21,
+    Rlwnm = 23,
 }
 
 /// How a comparison reads its words.
 #[derive(Clone, Copy)]
 pub enum Comparison {
-    Signed,
-    Unsigned,
+    Signed = 0,
+    Unsigned = 32,
 }
 
 /// Loads with a displacement or an index, with an update form.
 #[derive(Clone, Copy)]
 pub enum LoadOp {
-    Lbz,
-    Lhz,
-    Lha,
-    Lwz,
+    Lbz = 87,
+    Lhz = 279,
+    Lha = 343,
+    Lwz = 23,
 }
 
 /// Stores with a displacement or an index, with an update form.
 #[derive(Clone, Copy)]
 pub enum StoreOp {
-    Stb,
-    Sth,
-    Stw,
+    Stb = 215,
+    Sth = 407,
+    Stw = 151,
 }
 
 /// Loads with an index only.
 #[derive(Clone, Copy)]
 pub enum LoadIndexedOp {
-    Lhbrx,
-    Lwbrx,
-    Lwarx,
+    Lhbrx = 790,
+    Lwbrx = 534,
+    Lwarx = 20,
 }
 
 /// Stores with an index only.
 #[derive(Clone, Copy)]
 pub enum StoreIndexedOp {
-    Sthbrx,
-    Stwbrx,
+    Sthbrx = 918,
+    Stwbrx = 662,
 }
 
 /// What is added to the base for an address: a displacement of 16 bits, or a register.
@@ -138,53 +140,53 @@ pub enum Offset {
 /// The register that a branch takes its target from.
 #[derive(Clone, Copy)]
 pub enum BranchTarget {
-    Link,
-    Count,
+    Link = 16,
+    Count = 528,
 }
 
 /// Logic on bits of the condition register.
 #[derive(Clone, Copy)]
 pub enum ConditionOp {
-    Crand,
-    Crandc,
-    Creqv,
-    Crnand,
-    Crnor,
-    Cror,
-    Crorc,
-    Crxor,
+    Crand = 257,
+    Crandc = 129,
+    Creqv = 289,
+    Crnand = 225,
+    Crnor = 33,
+    Cror = 449,
+    Crorc = 417,
+    Crxor = 193,
 }
 
 /// Moves between a general register and the condition register or the machine state.
 #[derive(Clone, Copy)]
 pub enum MoveOp {
-    Mfcr,
-    Mfmsr,
-    Mtmsr,
-    Wrtee,
+    Mfcr = 19,
+    Mfmsr = 83,
+    Mtmsr = 146,
+    Wrtee = 131,
 }
 
 /// Moves between a general register and a special purpose register.
 #[derive(Clone, Copy)]
 pub enum SpecialOp {
-    Mfspr,
-    Mtspr,
+    Mfspr = 339,
+    Mtspr = 467,
 }
 
 /// Reading and writing a word of a page entry.
 #[derive(Clone, Copy)]
 pub enum TlbWordOp {
-    Tlbre,
-    Tlbwe,
+    Tlbre = 946,
+    Tlbwe = 978,
 }
 
 /// Instructions without operands, other than the system call.
 #[derive(Clone, Copy)]
 pub enum BareOp {
-    Rfi,
-    Isync,
-    Msync,
-    Tlbsync,
+    Rfi = 50,
+    Isync = 150,
+    Msync = 598,
+    Tlbsync = 566,
 }
 
 /// addi, addis, addic, addic., subfic, mulli.
