@@ -23,7 +23,7 @@ fn by_nineteen(form: Nineteen, f: Fields) -> Option<Instruction>
     ensures { result ≡ by_nineteen form f }
 {
     match form {
-        Nineteen::Branch(target) => (f.third == 0 && valid_branch(target, f.first)).then_some(
+        Nineteen::Branch(target) if f.third == 0 && valid_branch(target, f.first) => Some(
             Instruction::BranchRegister(BranchRegister {
                 target,
                 options: f.first,
@@ -31,7 +31,7 @@ fn by_nineteen(form: Nineteen, f: Fields) -> Option<Instruction>
                 link: f.last,
             }),
         ),
-        Nineteen::ConditionLogical(op) => (!f.last).then_some(Instruction::ConditionLogical(
+        Nineteen::ConditionLogical(op) if !f.last => Some(Instruction::ConditionLogical(
             ConditionLogical {
                 op,
                 target: f.first,
@@ -39,14 +39,15 @@ fn by_nineteen(form: Nineteen, f: Fields) -> Option<Instruction>
                 second: f.third,
             },
         )),
-        Nineteen::Bare(op) => bare(f).then_some(Instruction::Bare { op }),
-        Nineteen::MoveConditionField => (f.first % 4 == 0
-            && f.second % 4 == 0
-            && f.third == 0
-            && !f.last).then_some(Instruction::MoveConditionField(MoveConditionField {
-            to: f.first / 4,
-            from: f.second / 4,
-        })),
+        Nineteen::Bare(op) if bare(f) => Some(Instruction::Bare { op }),
+        Nineteen::MoveConditionField
+            if f.first % 4 == 0 && f.second % 4 == 0 && f.third == 0 && !f.last => Some(
+            Instruction::MoveConditionField(MoveConditionField {
+                to: f.first / 4,
+                from: f.second / 4,
+            }),
+        ),
+        _ => None,
     }
 }
 
@@ -66,15 +67,15 @@ fn by_extended(form: Extended, f: Fields) -> Option<Instruction>
                 rc: f.last,
             }))
         }
-        Extended::ArithmeticUnary(op, oe) => (f.third == 0).then_some(
-            Instruction::ArithmeticUnary(ArithmeticUnary {
+        Extended::ArithmeticUnary(op, oe) if f.third == 0 => Some(Instruction::ArithmeticUnary(
+            ArithmeticUnary {
                 op,
                 rt: f.first,
                 ra: f.second,
                 oe,
                 rc: f.last,
-            }),
-        ),
+            },
+        )),
         Extended::MultiplyHigh(op) => {
             Some(Instruction::MultiplyHigh(MultiplyHigh {
                 op,
@@ -91,7 +92,7 @@ fn by_extended(form: Extended, f: Fields) -> Option<Instruction>
             rb: f.third,
             rc: f.last,
         })),
-        Extended::LogicalUnary(op) => (f.third == 0).then_some(Instruction::LogicalUnary(
+        Extended::LogicalUnary(op) if f.third == 0 => Some(Instruction::LogicalUnary(
             LogicalUnary {
                 op,
                 ra: f.second,
@@ -107,26 +108,26 @@ fn by_extended(form: Extended, f: Fields) -> Option<Instruction>
                 rc: f.last,
             }))
         }
-        Extended::Select => (!f.last).then_some(Instruction::Select(Select {
+        Extended::Select if !f.last => Some(Instruction::Select(Select {
             rt: f.first,
             ra: f.second,
             rb: f.third,
             bit: f.extended / 32,
         })),
-        Extended::Compare(comparison) => (f.first % 4 == 0 && !f.last).then_some(
-            Instruction::Compare(Compare {
+        Extended::Compare(comparison) if f.first % 4 == 0 && !f.last => Some(Instruction::Compare(
+            Compare {
                 comparison,
                 field: f.first / 4,
                 ra: f.second,
                 rb: f.third,
-            }),
-        ),
-        Extended::Trap => (!f.last).then_some(Instruction::Trap(Trap {
+            },
+        )),
+        Extended::Trap if !f.last => Some(Instruction::Trap(Trap {
             conditions: f.first,
             ra: f.second,
             rb: f.third,
         })),
-        Extended::Load(op, update) => (!f.last && valid_load(update, f.first, f.second)).then_some(
+        Extended::Load(op, update) if !f.last && valid_load(update, f.first, f.second) => Some(
             Instruction::Load(Load {
                 op,
                 rt: f.first,
@@ -135,7 +136,7 @@ fn by_extended(form: Extended, f: Fields) -> Option<Instruction>
                 update,
             }),
         ),
-        Extended::Store(op, update) => (!f.last && valid_store(update, f.second)).then_some(
+        Extended::Store(op, update) if !f.last && valid_store(update, f.second) => Some(
             Instruction::Store(Store {
                 op,
                 rs: f.first,
@@ -144,64 +145,56 @@ fn by_extended(form: Extended, f: Fields) -> Option<Instruction>
                 update,
             }),
         ),
-        Extended::LoadIndexed(op) => {
-            (!f.last).then_some(Instruction::LoadIndexed(LoadIndexed {
-                op,
-                rt: f.first,
-                ra: f.second,
-                rb: f.third,
-            }))
-        }
-        Extended::StoreIndexed(op) => {
-            (!f.last).then_some(Instruction::StoreIndexed(StoreIndexed {
-                op,
+        Extended::LoadIndexed(op) if !f.last => Some(Instruction::LoadIndexed(LoadIndexed {
+            op,
+            rt: f.first,
+            ra: f.second,
+            rb: f.third,
+        })),
+        Extended::StoreIndexed(op) if !f.last => Some(Instruction::StoreIndexed(StoreIndexed {
+            op,
+            rs: f.first,
+            ra: f.second,
+            rb: f.third,
+        })),
+        Extended::StoreConditional if f.last => Some(Instruction::StoreConditional(
+            StoreConditional {
                 rs: f.first,
                 ra: f.second,
                 rb: f.third,
-            }))
-        }
-        Extended::StoreConditional => {
-            f.last.then_some(Instruction::StoreConditional(StoreConditional {
-                rs: f.first,
-                ra: f.second,
-                rb: f.third,
-            }))
-        }
-        Extended::MoveFromXer => (f.first % 4 == 0
-            && f.second == 0
-            && f.third == 0
-            && !f.last).then_some(Instruction::MoveFromXer { field: f.first / 4 }),
-        Extended::Move(op) => (f.second == 0 && f.third == 0 && !f.last).then_some(
-            Instruction::Move(Move {
+            },
+        )),
+        Extended::MoveFromXer if f.first % 4 == 0 && f.second == 0 && f.third == 0 && !f.last =>
+            Some(Instruction::MoveFromXer { field: f.first / 4 }),
+        Extended::Move(op) if f.second == 0 && f.third == 0 && !f.last => Some(Instruction::Move(
+            Move {
                 op,
                 register: f.first,
-            }),
+            },
+        )),
+        Extended::WriteExternalEnable
+            if f.first == 0 && f.second == 0 && f.third % 16 == 0 && !f.last => Some(
+            Instruction::WriteExternalEnable {
+                enable: f.third / 16 == 1,
+            },
         ),
-        Extended::WriteExternalEnable => (f.first == 0
-            && f.second == 0
-            && f.third % 16 == 0
-            && !f.last).then_some(Instruction::WriteExternalEnable {
-            enable: f.third / 16 == 1,
-        }),
-        Extended::MoveToConditionFields => (f.second < 16 && f.third % 2 == 0 && !f.last).then_some(
+        Extended::MoveToConditionFields if f.second < 16 && f.third % 2 == 0 && !f.last => Some(
             Instruction::MoveToConditionFields(MoveToConditionFields {
                 mask: f.second * 16 + f.third / 2,
                 rs: f.first,
             }),
         ),
-        Extended::MoveSpecial(op) => (!f.last).then_some(Instruction::MoveSpecial(MoveSpecial {
+        Extended::MoveSpecial(op) if !f.last => Some(Instruction::MoveSpecial(MoveSpecial {
             op,
             register: f.first,
             number: f.third * 32 + f.second,
         })),
-        Extended::TlbWord(op) => (f.third < 3 && !f.last).then_some(Instruction::TlbWord(
-            TlbWord {
-                op,
-                register: f.first,
-                ra: f.second,
-                word: f.third,
-            },
-        )),
+        Extended::TlbWord(op) if f.third < 3 && !f.last => Some(Instruction::TlbWord(TlbWord {
+            op,
+            register: f.first,
+            ra: f.second,
+            word: f.third,
+        })),
         Extended::TlbSearch => {
             Some(Instruction::TlbSearch(TlbSearch {
                 rt: f.first,
@@ -210,18 +203,19 @@ fn by_extended(form: Extended, f: Fields) -> Option<Instruction>
                 rc: f.last,
             }))
         }
-        Extended::Barrier => (f.second == 0 && f.third == 0 && !f.last).then_some(
-            Instruction::Barrier { ordering: f.first },
-        ),
-        Extended::Bare(op) => bare(f).then_some(Instruction::Bare { op }),
+        Extended::Barrier if f.second == 0 && f.third == 0 && !f.last => Some(Instruction::Barrier {
+            ordering: f.first,
+        }),
+        Extended::Bare(op) if bare(f) => Some(Instruction::Bare { op }),
+        _ => None,
     }
 }
 
 /// The instruction of a word by its primary opcode.
-fn by_primary(form: Primary, word: u32, f: Fields) -> Option<Instruction>
-    requires { f ≡ fields_of word }
-    ensures { result ≡ by_primary form word f }
+fn by_primary(form: Primary, word: u32) -> Option<Instruction>
+    ensures { result ≡ by_primary form word (fields_of word) }
 {
+    let f = fields::split(word);
     match form {
         Primary::Immediate(op) => Some(Instruction::Immediate(Immediate {
             op,
@@ -237,7 +231,7 @@ fn by_primary(form: Primary, word: u32, f: Fields) -> Option<Instruction>
                 immediate: f.low,
             }))
         }
-        Primary::CompareImmediate(comparison) => (f.first % 4 == 0).then_some(
+        Primary::CompareImmediate(comparison) if f.first % 4 == 0 => Some(
             Instruction::CompareImmediate(CompareImmediate {
                 comparison,
                 field: f.first / 4,
@@ -261,7 +255,7 @@ fn by_primary(form: Primary, word: u32, f: Fields) -> Option<Instruction>
             end: f.extended % 32,
             rc: f.last,
         })),
-        Primary::Load(op, update) => valid_load(update, f.first, f.second).then_some(
+        Primary::Load(op, update) if valid_load(update, f.first, f.second) => Some(
             Instruction::Load(Load {
                 op,
                 rt: f.first,
@@ -270,7 +264,7 @@ fn by_primary(form: Primary, word: u32, f: Fields) -> Option<Instruction>
                 update,
             }),
         ),
-        Primary::Store(op, update) => valid_store(update, f.second).then_some(Instruction::Store(
+        Primary::Store(op, update) if valid_store(update, f.second) => Some(Instruction::Store(
             Store {
                 op,
                 rs: f.first,
@@ -279,7 +273,7 @@ fn by_primary(form: Primary, word: u32, f: Fields) -> Option<Instruction>
                 update,
             },
         )),
-        Primary::BranchConditional => valid_options(f.first).then_some(
+        Primary::BranchConditional if valid_options(f.first) => Some(
             Instruction::BranchConditional(BranchConditional {
                 options: f.first,
                 bit: f.second,
@@ -288,7 +282,7 @@ fn by_primary(form: Primary, word: u32, f: Fields) -> Option<Instruction>
                 link: f.last,
             }),
         ),
-        Primary::SystemCall => (word == 0x4400_0002).then_some(Instruction::SystemCall),
+        Primary::SystemCall if word == 0x4400_0002 => Some(Instruction::SystemCall),
         Primary::Branch => Some(Instruction::Branch(Branch {
             displacement: word / 4 % 0x100_0000,
             absolute: word / 2 % 2 == 1,
@@ -296,6 +290,7 @@ fn by_primary(form: Primary, word: u32, f: Fields) -> Option<Instruction>
         })),
         Primary::Nineteen => by_nineteen(nineteen_at(f.extended)?, f),
         Primary::Extended => by_extended(extended_at(f.extended)?, f),
+        _ => None,
     }
 }
 
@@ -307,6 +302,5 @@ pub fn decode(word: u32) -> Option<Instruction>
     ensures in_range { DecodedInRange result }
     ensures lossless { Lossless }
 {
-    let form = primary_at(word / 0x400_0000)?;
-    by_primary(form, word, fields::split(word))
+    by_primary(primary_at(word / 0x400_0000)?, word)
 }

@@ -7,7 +7,7 @@
 pub type Register = u32;
 
 /// Arithmetic with a 16-bit immediate.
-#[derive(Clone, Copy)]
+#[derive(Clone, Copy, PartialEq, Eq, Debug)]
 pub enum ImmediateOp {
     Addi = 14,
     Addis = 15,
@@ -18,7 +18,7 @@ pub enum ImmediateOp {
 }
 
 /// Logic with a 16-bit immediate.
-#[derive(Clone, Copy)]
+#[derive(Clone, Copy, PartialEq, Eq, Debug)]
 pub enum LogicalImmediateOp {
     AndiRecord = 28,
     AndisRecord = 29,
@@ -29,7 +29,7 @@ pub enum LogicalImmediateOp {
 }
 
 /// Arithmetic on two registers, with an overflow form.
-#[derive(Clone, Copy)]
+#[derive(Clone, Copy, PartialEq, Eq, Debug)]
 pub enum ArithmeticOp {
     Add = 266,
     Addc = 10,
@@ -43,7 +43,7 @@ pub enum ArithmeticOp {
 }
 
 /// Arithmetic on one register, with an overflow form.
-#[derive(Clone, Copy)]
+#[derive(Clone, Copy, PartialEq, Eq, Debug)]
 pub enum ArithmeticUnaryOp {
     Addme = 234,
     Addze = 202,
@@ -53,14 +53,14 @@ pub enum ArithmeticUnaryOp {
 }
 
 /// The upper half of a product.
-#[derive(Clone, Copy)]
+#[derive(Clone, Copy, PartialEq, Eq, Debug)]
 pub enum MultiplyHighOp {
     Mulhw = 75,
     Mulhwu = 11,
 }
 
 /// Logic and shifts on two registers.
-#[derive(Clone, Copy)]
+#[derive(Clone, Copy, PartialEq, Eq, Debug)]
 pub enum LogicalOp {
     And = 28,
     Andc = 60,
@@ -76,7 +76,7 @@ pub enum LogicalOp {
 }
 
 /// Logic on one register.
-#[derive(Clone, Copy)]
+#[derive(Clone, Copy, PartialEq, Eq, Debug)]
 pub enum LogicalUnaryOp {
     Extsb = 954,
     Extsh = 922,
@@ -84,7 +84,7 @@ pub enum LogicalUnaryOp {
 }
 
 /// Rotations under a mask.
-#[derive(Clone, Copy)]
+#[derive(Clone, Copy, PartialEq, Eq, Debug)]
 pub enum RotateOp {
     Rlwimi = 20,
     Rlwinm = 21,
@@ -92,14 +92,14 @@ pub enum RotateOp {
 }
 
 /// How a comparison reads its words.
-#[derive(Clone, Copy)]
+#[derive(Clone, Copy, PartialEq, Eq, Debug)]
 pub enum Comparison {
     Signed = 0,
     Unsigned = 32,
 }
 
 /// Loads with a displacement or an index, with an update form.
-#[derive(Clone, Copy)]
+#[derive(Clone, Copy, PartialEq, Eq, Debug)]
 pub enum LoadOp {
     Lbz = 87,
     Lhz = 279,
@@ -108,7 +108,7 @@ pub enum LoadOp {
 }
 
 /// Stores with a displacement or an index, with an update form.
-#[derive(Clone, Copy)]
+#[derive(Clone, Copy, PartialEq, Eq, Debug)]
 pub enum StoreOp {
     Stb = 215,
     Sth = 407,
@@ -116,7 +116,7 @@ pub enum StoreOp {
 }
 
 /// Loads with an index only.
-#[derive(Clone, Copy)]
+#[derive(Clone, Copy, PartialEq, Eq, Debug)]
 pub enum LoadIndexedOp {
     Lhbrx = 790,
     Lwbrx = 534,
@@ -124,28 +124,28 @@ pub enum LoadIndexedOp {
 }
 
 /// Stores with an index only.
-#[derive(Clone, Copy)]
+#[derive(Clone, Copy, PartialEq, Eq, Debug)]
 pub enum StoreIndexedOp {
     Sthbrx = 918,
     Stwbrx = 662,
 }
 
 /// What is added to the base for an address: a displacement of 16 bits, or a register.
-#[derive(Clone, Copy)]
+#[derive(Clone, Copy, PartialEq, Eq, Debug)]
 pub enum Offset {
     Displacement(u32),
     Index(Register),
 }
 
 /// The register that a branch takes its target from.
-#[derive(Clone, Copy)]
+#[derive(Clone, Copy, PartialEq, Eq, Debug)]
 pub enum BranchTarget {
     Link = 16,
     Count = 528,
 }
 
 /// Logic on bits of the condition register.
-#[derive(Clone, Copy)]
+#[derive(Clone, Copy, PartialEq, Eq, Debug)]
 pub enum ConditionOp {
     Crand = 257,
     Crandc = 129,
@@ -158,7 +158,7 @@ pub enum ConditionOp {
 }
 
 /// Moves between a general register and the condition register or the machine state.
-#[derive(Clone, Copy)]
+#[derive(Clone, Copy, PartialEq, Eq, Debug)]
 pub enum MoveOp {
     Mfcr = 19,
     Mfmsr = 83,
@@ -167,21 +167,21 @@ pub enum MoveOp {
 }
 
 /// Moves between a general register and a special purpose register.
-#[derive(Clone, Copy)]
+#[derive(Clone, Copy, PartialEq, Eq, Debug)]
 pub enum SpecialOp {
     Mfspr = 339,
     Mtspr = 467,
 }
 
 /// Reading and writing a word of a page entry.
-#[derive(Clone, Copy)]
+#[derive(Clone, Copy, PartialEq, Eq, Debug)]
 pub enum TlbWordOp {
     Tlbre = 946,
     Tlbwe = 978,
 }
 
 /// Instructions without operands, other than the system call.
-#[derive(Clone, Copy)]
+#[derive(Clone, Copy, PartialEq, Eq, Debug)]
 pub enum BareOp {
     Rfi = 50,
     Isync = 150,
@@ -189,8 +189,9 @@ pub enum BareOp {
     Tlbsync = 566,
 }
 
+// Formats of one shape stay apart where a register has another name: rt is written and rs read, and ra written in logic.
 /// addi, addis, addic, addic., subfic, mulli.
-#[derive(Clone, Copy)]
+#[derive(Clone, Copy, PartialEq, Eq, Debug)]
 pub struct Immediate {
     pub op: ImmediateOp,
     pub rt: Register,
@@ -199,7 +200,7 @@ pub struct Immediate {
 }
 
 /// andi., andis., ori, oris, xori, xoris.
-#[derive(Clone, Copy)]
+#[derive(Clone, Copy, PartialEq, Eq, Debug)]
 pub struct LogicalImmediate {
     pub op: LogicalImmediateOp,
     pub ra: Register,
@@ -208,7 +209,7 @@ pub struct LogicalImmediate {
 }
 
 /// cmpi, cmpli, into the condition field.
-#[derive(Clone, Copy)]
+#[derive(Clone, Copy, PartialEq, Eq, Debug)]
 pub struct CompareImmediate {
     pub comparison: Comparison,
     pub field: u32,
@@ -217,7 +218,7 @@ pub struct CompareImmediate {
 }
 
 /// twi, with the conditions that trap.
-#[derive(Clone, Copy)]
+#[derive(Clone, Copy, PartialEq, Eq, Debug)]
 pub struct TrapImmediate {
     pub conditions: u32,
     pub ra: Register,
@@ -225,7 +226,7 @@ pub struct TrapImmediate {
 }
 
 /// lbz, lhz, lha, lwz, with u, x and ux.
-#[derive(Clone, Copy)]
+#[derive(Clone, Copy, PartialEq, Eq, Debug)]
 pub struct Load {
     pub op: LoadOp,
     pub rt: Register,
@@ -235,7 +236,7 @@ pub struct Load {
 }
 
 /// stb, sth, stw, with u, x and ux.
-#[derive(Clone, Copy)]
+#[derive(Clone, Copy, PartialEq, Eq, Debug)]
 pub struct Store {
     pub op: StoreOp,
     pub rs: Register,
@@ -245,7 +246,7 @@ pub struct Store {
 }
 
 /// b, with AA and LK; the displacement counts words.
-#[derive(Clone, Copy)]
+#[derive(Clone, Copy, PartialEq, Eq, Debug)]
 pub struct Branch {
     pub displacement: u32,
     pub absolute: bool,
@@ -253,7 +254,7 @@ pub struct Branch {
 }
 
 /// bc, with AA and LK; the displacement counts words.
-#[derive(Clone, Copy)]
+#[derive(Clone, Copy, PartialEq, Eq, Debug)]
 pub struct BranchConditional {
     pub options: u32,
     pub bit: u32,
@@ -263,7 +264,7 @@ pub struct BranchConditional {
 }
 
 /// bclr, bcctr, with LK.
-#[derive(Clone, Copy)]
+#[derive(Clone, Copy, PartialEq, Eq, Debug)]
 pub struct BranchRegister {
     pub target: BranchTarget,
     pub options: u32,
@@ -272,7 +273,7 @@ pub struct BranchRegister {
 }
 
 /// rlwimi, rlwinm, rlwnm; the amount is a number, and a register's for rlwnm.
-#[derive(Clone, Copy)]
+#[derive(Clone, Copy, PartialEq, Eq, Debug)]
 pub struct Rotate {
     pub op: RotateOp,
     pub ra: Register,
@@ -284,7 +285,7 @@ pub struct Rotate {
 }
 
 /// crand, crandc, creqv, crnand, crnor, cror, crorc, crxor.
-#[derive(Clone, Copy)]
+#[derive(Clone, Copy, PartialEq, Eq, Debug)]
 pub struct ConditionLogical {
     pub op: ConditionOp,
     pub target: u32,
@@ -293,14 +294,14 @@ pub struct ConditionLogical {
 }
 
 /// mcrf.
-#[derive(Clone, Copy)]
+#[derive(Clone, Copy, PartialEq, Eq, Debug)]
 pub struct MoveConditionField {
     pub to: u32,
     pub from: u32,
 }
 
 /// add, addc, adde, subf, subfc, subfe, mullw, divw, divwu, with OE and Rc.
-#[derive(Clone, Copy)]
+#[derive(Clone, Copy, PartialEq, Eq, Debug)]
 pub struct Arithmetic {
     pub op: ArithmeticOp,
     pub rt: Register,
@@ -311,7 +312,7 @@ pub struct Arithmetic {
 }
 
 /// addme, addze, subfme, subfze, neg, with OE and Rc.
-#[derive(Clone, Copy)]
+#[derive(Clone, Copy, PartialEq, Eq, Debug)]
 pub struct ArithmeticUnary {
     pub op: ArithmeticUnaryOp,
     pub rt: Register,
@@ -321,7 +322,7 @@ pub struct ArithmeticUnary {
 }
 
 /// mulhw, mulhwu, with Rc.
-#[derive(Clone, Copy)]
+#[derive(Clone, Copy, PartialEq, Eq, Debug)]
 pub struct MultiplyHigh {
     pub op: MultiplyHighOp,
     pub rt: Register,
@@ -331,7 +332,7 @@ pub struct MultiplyHigh {
 }
 
 /// and, andc, nand, or, orc, nor, xor, eqv, slw, srw, sraw, with Rc.
-#[derive(Clone, Copy)]
+#[derive(Clone, Copy, PartialEq, Eq, Debug)]
 pub struct Logical {
     pub op: LogicalOp,
     pub ra: Register,
@@ -341,7 +342,7 @@ pub struct Logical {
 }
 
 /// extsb, extsh, cntlzw, with Rc.
-#[derive(Clone, Copy)]
+#[derive(Clone, Copy, PartialEq, Eq, Debug)]
 pub struct LogicalUnary {
     pub op: LogicalUnaryOp,
     pub ra: Register,
@@ -350,7 +351,7 @@ pub struct LogicalUnary {
 }
 
 /// srawi, with Rc.
-#[derive(Clone, Copy)]
+#[derive(Clone, Copy, PartialEq, Eq, Debug)]
 pub struct ShiftRightImmediate {
     pub ra: Register,
     pub rs: Register,
@@ -359,7 +360,7 @@ pub struct ShiftRightImmediate {
 }
 
 /// isel, by a bit of the condition register.
-#[derive(Clone, Copy)]
+#[derive(Clone, Copy, PartialEq, Eq, Debug)]
 pub struct Select {
     pub rt: Register,
     pub ra: Register,
@@ -368,7 +369,7 @@ pub struct Select {
 }
 
 /// cmp, cmpl, into the condition field.
-#[derive(Clone, Copy)]
+#[derive(Clone, Copy, PartialEq, Eq, Debug)]
 pub struct Compare {
     pub comparison: Comparison,
     pub field: u32,
@@ -377,7 +378,7 @@ pub struct Compare {
 }
 
 /// tw, with the conditions that trap.
-#[derive(Clone, Copy)]
+#[derive(Clone, Copy, PartialEq, Eq, Debug)]
 pub struct Trap {
     pub conditions: u32,
     pub ra: Register,
@@ -385,7 +386,7 @@ pub struct Trap {
 }
 
 /// lhbrx, lwbrx, lwarx.
-#[derive(Clone, Copy)]
+#[derive(Clone, Copy, PartialEq, Eq, Debug)]
 pub struct LoadIndexed {
     pub op: LoadIndexedOp,
     pub rt: Register,
@@ -394,7 +395,7 @@ pub struct LoadIndexed {
 }
 
 /// sthbrx, stwbrx.
-#[derive(Clone, Copy)]
+#[derive(Clone, Copy, PartialEq, Eq, Debug)]
 pub struct StoreIndexed {
     pub op: StoreIndexedOp,
     pub rs: Register,
@@ -403,7 +404,7 @@ pub struct StoreIndexed {
 }
 
 /// stwcx.
-#[derive(Clone, Copy)]
+#[derive(Clone, Copy, PartialEq, Eq, Debug)]
 pub struct StoreConditional {
     pub rs: Register,
     pub ra: Register,
@@ -411,21 +412,21 @@ pub struct StoreConditional {
 }
 
 /// mfcr, mfmsr, mtmsr, wrtee.
-#[derive(Clone, Copy)]
+#[derive(Clone, Copy, PartialEq, Eq, Debug)]
 pub struct Move {
     pub op: MoveOp,
     pub register: Register,
 }
 
 /// mtcrf, with a mask of eight condition fields.
-#[derive(Clone, Copy)]
+#[derive(Clone, Copy, PartialEq, Eq, Debug)]
 pub struct MoveToConditionFields {
     pub mask: u32,
     pub rs: Register,
 }
 
 /// mfspr, mtspr, with the number of the special purpose register.
-#[derive(Clone, Copy)]
+#[derive(Clone, Copy, PartialEq, Eq, Debug)]
 pub struct MoveSpecial {
     pub op: SpecialOp,
     pub register: Register,
@@ -433,16 +434,17 @@ pub struct MoveSpecial {
 }
 
 /// tlbre, tlbwe, with the number of the word.
-#[derive(Clone, Copy)]
+#[derive(Clone, Copy, PartialEq, Eq, Debug)]
 pub struct TlbWord {
     pub op: TlbWordOp,
     pub register: Register,
     pub ra: Register,
+    // A number and no enum, as it stands in the word: an enum would ask a caller of `encode` to rule out the others.
     pub word: u32,
 }
 
 /// tlbsx, tlbsx.
-#[derive(Clone, Copy)]
+#[derive(Clone, Copy, PartialEq, Eq, Debug)]
 pub struct TlbSearch {
     pub rt: Register,
     pub ra: Register,
@@ -451,7 +453,7 @@ pub struct TlbSearch {
 }
 
 /// An instruction: one case for each format.
-#[derive(Clone, Copy)]
+#[derive(Clone, Copy, PartialEq, Eq, Debug)]
 pub enum Instruction {
     Immediate(Immediate),
     LogicalImmediate(LogicalImmediate),

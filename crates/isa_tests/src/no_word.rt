@@ -1,5 +1,5 @@
 //! Instructions that no word stands for: each is one that has a word, but for one of its fields.
-use isa::encode;
+use isa::{decode, encode};
 use isa::instruction::*;
 
 const ADDI: Immediate = Immediate {
@@ -130,7 +130,7 @@ const TLBRE: TlbWord = TlbWord {
     word: 2,
 };
 
-/// Instructions that have a word.
+/// Instructions that have a word, which reads as the instruction again.
 static SOUND: [Instruction; 22] = [
     Instruction::Immediate(ADDI),
     Instruction::LogicalImmediate(ORI),
@@ -340,7 +340,7 @@ static UNSOUND: [(Instruction, &str); 33] = [
 #[test]
 fn has_a_word(rt: HostRuntime) {
     for instruction in &SOUND {
-        assert!(rt; encode(*instruction).is_some());
+        assert_eq!(rt; encode(*instruction).and_then(decode), Some(*instruction));
     }
 }
 
