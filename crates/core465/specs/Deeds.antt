@@ -1,14 +1,16 @@
 -- What supervisor state does with a privileged deed; none where it names a register that there is not. Assumes nothing.
-use Rattle.std.specs.Prelude.{ℕ, ◌+◌, ◌*◌, ◌%◌, Bool, true, false, cond, List, Some, None, Option, nat_lt, slice_index, slice_set}
+use Rattle.std.specs.Prelude.{ℕ, ◌+◌, ◌*◌, ◌%◌, Bool, true, false, cond, List, Some, None, Ok, Err, Option, Result, nat_lt, slice_index, slice_set}
 use Rattle.word.specs.Words.{bit}
 use Rattle.word.specs.Conditions.{with_field}
 use Rattle.cpu.specs.declared.registers.Working.{Working}
 use Rattle.cpu.specs.declared.registers.Shown.{Shown}
 use Rattle.cpu.specs.declared.registers.Msr.{Msr}
+use Rattle.cpu.specs.declared.special.NoSuchRegister.{NoSuchRegister}
 use Rattle.cpu.specs.declared.deed.Privileged.{Privileged}
 use Rattle.cpu.specs.declared.deed.Privileged.TheVariants.{ReadMsr, WriteMsr, WriteExternalEnable, Return, ReadSpecial, WriteSpecial, ReadEntry, WriteEntry, SearchEntries, Synchronize}
 use Rattle.cpu.specs.Registers.{next, with_gpr, with_cr, with_pc, msr_word, msr_from}
 use Rattle.pages.specs.declared.entry.Entry.{Entry}
+use Rattle.pages.specs.declared.entry.NoSuchWord.{NoSuchWord}
 use Rattle.pages.specs.declared.entry.Word.{Word}
 use Rattle.pages.specs.declared.entry.Word.TheVariants.{PageId, Xlat, Attrib}
 use Rattle.pages.specs.Entries.{word_of}
@@ -74,13 +76,13 @@ with_special_of Ivpr v m = with_hidden_of m (with_hidden Ivpr v m.hidden)
 with_special_of Mmucr v m = with_hidden_of m (with_hidden Mmucr v m.hidden)
 with_special_of (Ivor k) v m = with_hidden_of m (with_hidden (Ivor k) v m.hidden)
 
-abbrev pub read_special : ℕ → Option Special → Machine → Option Machine
-read_special rt None m = None
-read_special rt (Some s) m = Some (giving rt (special_of s m) m)
+abbrev pub read_special : ℕ → Result Special NoSuchRegister → Machine → Option Machine
+read_special rt (Err e) m = None
+read_special rt (Ok s) m = Some (giving rt (special_of s m) m)
 
-abbrev pub write_special : Option Special → ℕ → Machine → Option Machine
-write_special None v m = None
-write_special (Some s) v m = Some (advanced (with_special_of s v m))
+abbrev pub write_special : Result Special NoSuchRegister → ℕ → Machine → Option Machine
+write_special (Err e) v m = None
+write_special (Ok s) v m = Some (advanced (with_special_of s v m))
 
 -- rfi: on at SRR0, with SRR1 as the MSR
 abbrev pub returned : Machine → Machine
@@ -95,14 +97,14 @@ stid_from PageId t m = with_hidden_of m (with_stid m.hidden t)
 stid_from Xlat t m = m
 stid_from Attrib t m = m
 
-abbrev pub read_entry : ℕ → ℕ → Option Word → Machine → Option Machine
-read_entry rt n None m = None
-read_entry rt n (Some k) m = Some (giving rt (word_of (selected m.entries n) k) (stid_from k (selected m.entries n).tid m))
+abbrev pub read_entry : ℕ → ℕ → Result Word NoSuchWord → Machine → Option Machine
+read_entry rt n (Err e) m = None
+read_entry rt n (Ok k) m = Some (giving rt (word_of (selected m.entries n) k) (stid_from k (selected m.entries n).tid m))
 
 -- tlbwe: one word of one entry, and with WS 0 its TID from STID
-abbrev pub write_entry : ℕ → Option Word → ℕ → Machine → Option Machine
-write_entry n None v m = None
-write_entry n (Some k) v m = Some (advanced (with_entries m (written m.entries n k v m.hidden.mmucr.stid)))
+abbrev pub write_entry : ℕ → Result Word NoSuchWord → ℕ → Machine → Option Machine
+write_entry n (Err e) v m = None
+write_entry n (Ok k) v m = Some (advanced (with_entries m (written m.entries n k v m.hidden.mmucr.stid)))
 
 -- tlbsx: the first match with STS and STID to a register, or nothing; tlbsx. tells in condition field 0 whether there is one
 abbrev pub reported : Bool → Bool → Working → Working

@@ -1,5 +1,5 @@
+pub mod Cores
 pub mod Deeds
-pub mod Entries
 pub mod Hidden
 pub mod Interrupting
 pub mod Machine

@@ -3,10 +3,11 @@ use Rattle.std.specs.Prelude.{false, List, replicate}
 use Rattle.cpu.specs.declared.registers.Working.{Working}
 use Rattle.cpu.specs.declared.registers.Shown.{Shown}
 use Rattle.cpu.specs.declared.registers.Msr.{Msr}
+use Rattle.cpu.specs.Kept.{Kept}
 use Rattle.pages.specs.declared.entry.Entry.{Entry}
-use Rattle.pages.specs.Entries.{blank}
+use Rattle.pages.specs.Entries.{blank, AllKept}
 use Rattle.core465.specs.declared.hidden.Hidden.{Hidden}
-use Rattle.core465.specs.declared.machine.Core.{Core}
+use Rattle.core465.specs.Hidden.{SavedKept, TaskKept, VectorsKept}
 
 pub record Machine : Type 0 where
   pub working : Working
@@ -14,8 +15,13 @@ pub record Machine : Type 0 where
   pub hidden : Hidden
   pub entries : List Entry
 
-abbrev pub machine_of : Core → Machine
-machine_of c = record { working = c.working; shown = c.shown; hidden = c.hidden; entries = c.pages.entries }
+-- what every core keeps: registers and entries hold only the bits that they keep, and the counter is a multiple of four
+pub record MachineKept (m : Machine) : Type 0 where
+  pub working : Kept m.working
+  pub saved : SavedKept m.hidden
+  pub task : TaskKept m.hidden
+  pub vectors : VectorsKept m.hidden
+  pub entries : AllKept m.entries
 
 abbrev pub no_msr : Msr
 no_msr = record { ce = false; ee = false; pr = false; me = false; de = false; is = false; ds = false }

@@ -1,6 +1,7 @@
 -- A core with one of its registers set from outside. Assumes nothing.
-use Rattle.std.specs.Prelude.{ℕ, Bool, Some, None, Option}
+use Rattle.std.specs.Prelude.{ℕ, Bool, Some, None, Ok, Err, Option, Result}
 use Rattle.cpu.specs.declared.registers.Working.{Working}
+use Rattle.cpu.specs.declared.special.NoSuchRegister.{NoSuchRegister}
 use Rattle.cpu.specs.Specials.{with_special}
 use Rattle.core465.specs.declared.special.Special.{Special}
 use Rattle.core465.specs.Specials.{special_named}
@@ -12,11 +13,11 @@ abbrev pub with_line : Machine → Bool → Machine
 with_line m up = with_shown m (record { msr = m.shown.msr; sprg = m.shown.sprg; line = up })
 
 -- a special purpose register by its number: one that both states may write, or one that only supervisor state knows
-abbrev pub by_special : Option Special → ℕ → Machine → Option Machine
-by_special (Some s) v m = Some (with_special_of s v m)
-by_special None v m = None
+abbrev pub by_special : Result Special NoSuchRegister → ℕ → Machine → Option Machine
+by_special (Ok s) v m = Some (with_special_of s v m)
+by_special (Err e) v m = None
 
-abbrev pub by_working : Option Working → Option Special → ℕ → Machine → Option Machine
+abbrev pub by_working : Option Working → Result Special NoSuchRegister → ℕ → Machine → Option Machine
 by_working (Some w) s v m = Some (with_working m w)
 by_working None s v m = by_special s v m
 

@@ -1,23 +1,24 @@
 -- The special purpose registers that only supervisor state knows. Assumes nothing.
-use Rattle.std.specs.Prelude.{ℕ, ◌-◌, ◌%◌, cond, ◌&&◌, Some, None, Option, ◌==◌, nat_le, slice_index, slice_set}
+use Rattle.std.specs.Prelude.{ℕ, ◌-◌, ◌%◌, cond, ◌&&◌, Ok, Err, Result, ◌==◌, nat_le, slice_index, slice_set}
 use Rattle.cpu.specs.Registers.{msr_word, msr_from}
+use Rattle.cpu.specs.declared.special.NoSuchRegister.{NoSuchRegister}
 use Rattle.core465.specs.declared.hidden.Hidden.{Hidden}
 use Rattle.core465.specs.declared.hidden.Saved.{Saved}
 use Rattle.core465.specs.declared.special.Special.{Special}
 use Rattle.core465.specs.declared.special.Special.TheVariants.{Srr0, Srr1, Pid, Dear, Esr, Ivpr, Mmucr, Sprg, Ivor}
 use Rattle.core465.specs.Hidden.{srr0_bits, esr_bits, pid_bits, ivpr_bits, ivor_bits, mmucr_word, mmucr_from}
 
-abbrev pub special_named : ℕ → Option Special
+abbrev pub special_named : ℕ → Result Special NoSuchRegister
 special_named n =
-    cond (n == 26) (Some Srr0)
-    (cond (n == 27) (Some Srr1)
-    (cond (n == 48) (Some Pid)
-    (cond (n == 61) (Some Dear)
-    (cond (n == 62) (Some Esr)
-    (cond (n == 63) (Some Ivpr)
-    (cond (nat_le 272 n && nat_le n 279) (Some (Sprg (n - 272)))
-    (cond (nat_le 400 n && nat_le n 415) (Some (Ivor (n - 400)))
-    (cond (n == 946) (Some Mmucr) None))))))))
+    cond (n == 26) (Ok Srr0)
+    (cond (n == 27) (Ok Srr1)
+    (cond (n == 48) (Ok Pid)
+    (cond (n == 61) (Ok Dear)
+    (cond (n == 62) (Ok Esr)
+    (cond (n == 63) (Ok Ivpr)
+    (cond (nat_le 272 n && nat_le n 279) (Ok (Sprg (n - 272)))
+    (cond (nat_le 400 n && nat_le n 415) (Ok (Ivor (n - 400)))
+    (cond (n == 946) (Ok Mmucr) (Err (record {}))))))))))
 
 -- what a register reads as
 abbrev pub hidden_word : Special → Hidden → ℕ

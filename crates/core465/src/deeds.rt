@@ -1,89 +1,76 @@
 //! What supervisor state does with a privileged deed.
 ghost use Rattle.std.specs.Prelude.{◌≡◌, Some, None};
 ghost use Rattle.cpu.specs.Known.{Known};
-ghost use Rattle.core465.specs.Machine.{Machine, machine_of, new_machine};
+ghost use Rattle.core465.specs.Machine.{new_machine};
 ghost use Rattle.core465.specs.Deeds.{advanced, giving, with_working, stid_from, with_msr, with_ee, returned, special_of, with_special_of, read_special, write_special, read_entry, write_entry, reported, searched, carried_out};
 ghost use Rattle.core465.specs.Specials.{special_named};
 ghost use Rattle.pages.specs.Matching.{found};
 ghost use Rattle.pages.specs.Words.{word_numbered};
 ghost use Rattle.cpu.specs.Registers.{msr_word};
 
-use crate::hidden::{Hidden, Mmucr, Saved};
+use crate::hidden::{Hidden, Mmucr};
 use crate::machine::Core;
 use crate::special::Special;
 use cpu::deed::Privileged;
-use cpu::registers::{Msr, Shown, Working, Xer};
+use cpu::registers::{Msr, Shown, Working};
+use cpu::special::NoSuchRegister;
 use isa::instruction::Register;
-use pages::{Pages, VirtualAddress, Word};
+use pages::{NoSuchWord, Pages, VirtualAddress, Word};
+use std::error::Error;
+use std::fmt;
 use word::condition;
 
-/// MSR with no bit set.
-const NO_MSR: Msr = Msr {
-    ce: false,
-    ee: false,
-    pr: false,
-    me: false,
-    de: false,
-    is: false,
-    ds: false,
-};
+/// A deed that names a register, or a word of a page entry, that there is not.
+#[derive(Clone, Copy, PartialEq, Eq, Debug)]
+pub struct IllegalDeed;
+
+impl fmt::Display for IllegalDeed {
+    fn fmt<W: fmt::Write>(&self, f: &mut fmt::Formatter<W>) -> fmt::Result {
+        write!(f, "no such register or word of a page entry")
+    }
+}
+
+impl Error for IllegalDeed {}
+
+impl From<NoSuchRegister> for IllegalDeed {
+    ghost from_gives = { λ _ e. e ≡ record {} };
+
+    fn from(_error: NoSuchRegister) -> IllegalDeed {
+        IllegalDeed
+    }
+}
+
+impl From<NoSuchWord> for IllegalDeed {
+    ghost from_gives = { λ _ e. e ≡ record {} };
+
+    fn from(_error: NoSuchWord) -> IllegalDeed {
+        IllegalDeed
+    }
+}
 
 impl Core {
     /// A new core: zero everywhere, and the line down.
     pub fn new() -> Core
-        ensures { machine_of result ≡ new_machine }
+        ensures { result ≡ new_machine }
     {
         Core {
-            working: Working {
-                gpr: [0; 32],
-                cr: 0,
-                xer: Xer {
-                    so: false,
-                    ov: false,
-                    ca: false,
-                    count: 0,
-                },
-                lr: 0,
-                ctr: 0,
-                usprg0: 0,
-                pc: 0,
-                reserved: false,
-            },
-            shown: Shown {
-                msr: NO_MSR,
-                sprg: [0; 4],
-                line: false,
-            },
-            hidden: Hidden {
-                saved: Saved {
-                    srr0: 0,
-                    srr1: NO_MSR,
-                    esr: 0,
-                    dear: 0,
-                },
-                pid: 0,
-                mmucr: Mmucr {
-                    sts: false,
-                    stid: 0,
-                },
-                ivpr: 0,
-                ivor: [0; 16],
-                sprg: [0; 4],
-            },
+            working: Working::default(),
+            shown: Shown::default(),
+            hidden: Hidden::default(),
             pages: Pages::empty(),
         }
     }
 
     /// To the next instruction.
     fn advance(&mut self)
-        ensures { machine_of self.new ≡ advanced (machine_of self.old) }
+        ensures { self.new ≡ advanced self.old }
     {
         self.working.advance();
     }
 
     /// A word to a general register, and on.
     fn give(&mut self, rt: Register, value: u32)
-        ensures { machine_of self.new ≡ giving rt value (machine_of self.old) }
+        ensures { self.new ≡ giving rt value self.old }
     {
         self.working.set_word(rt, value);
         self.working.advance();
@@ -91,14 +78,14 @@ impl Core {
 
     /// Another MSR.
     fn set_msr(&mut self, msr: Msr)
-        ensures { machine_of self.new ≡ with_msr (machine_of self.old) msr }
+        ensures { self.new ≡ with_msr self.old msr }
     {
         self.shown.msr = msr;
     }
 
     /// rfi.
     fn return_from_interrupt(&mut self)
-        ensures { machine_of self.new ≡ returned (machine_of self.old) }
+        ensures { self.new ≡ returned self.old }
     {
         self.working.pc = self.hidden.saved.srr0;
         self.shown.msr = self.hidden.saved.srr1;
@@ -106,7 +93,7 @@ impl Core {
 
     /// A special purpose register's word.
     pub fn special(&self, register: Special) -> u32
-        ensures { result ≡ special_of register (machine_of self.now) }
+        ensures { result ≡ special_of register self.now }
     {
         match register {
             Special::Sprg(k) if k >= 4 => self.shown.sprg[(k % 4) as usize],
@@ -116,7 +103,7 @@ impl Core {
 
     /// A word to a special purpose register.
     pub fn set_special(&mut self, register: Special, value: u32)
-        ensures { machine_of self.new ≡ with_special_of register value (machine_of self.old) }
+        ensures { self.new ≡ with_special_of register value self.old }
     {
         match register {
             Special::Sprg(k) if k >= 4 => self.shown.sprg[(k % 4) as usize] = value,
@@ -124,86 +111,68 @@ impl Core {
         }
     }
 
-    /// mfspr of a privileged number; false where there is no such register.
-    fn read_special(&mut self, rt: Register, number: u32) -> bool
-        ensures { Known result (machine_of self.old) (machine_of self.new) (read_special rt (special_named number) (machine_of self.old)) }
+    /// mfspr of a privileged number, where there is such a register.
+    fn read_special(&mut self, rt: Register, number: u32) -> Result<(), NoSuchRegister>
+        ensures { Known result self.old self.new (read_special rt (special_named number) self.old) }
     {
-        match Special::named(number) {
-            Some(register) => {
-                let value = self.special(register);
-                self.give(rt, value);
-                true
-            }
-            None => false,
-        }
+        let value = self.special(Special::try_from(number)?);
+        self.give(rt, value);
+        Ok(())
     }
 
-    /// mtspr of a privileged number; false where there is no such register.
-    fn write_special(&mut self, number: u32, value: u32) -> bool
-        ensures { Known result (machine_of self.old) (machine_of self.new) (write_special (special_named number) value (machine_of self.old)) }
+    /// mtspr of a privileged number, where there is such a register.
+    fn write_special(&mut self, number: u32, value: u32) -> Result<(), NoSuchRegister>
+        ensures { Known result self.old self.new (write_special (special_named number) value self.old) }
     {
-        match Special::named(number) {
-            Some(register) => {
-                self.set_special(register, value);
-                self.advance();
-                true
-            }
-            None => false,
-        }
+        self.set_special(Special::try_from(number)?, value);
+        self.advance();
+        Ok(())
     }
 
     /// The TID of an entry to STID, where its first word is read.
     fn take_stid(&mut self, word: Word, tid: u32)
-        ensures { machine_of self.new ≡ stid_from word tid (machine_of self.old) }
+        ensures { self.new ≡ stid_from word tid self.old }
     {
         if let Word::PageId = word {
             self.hidden.mmucr.stid = tid % 256;
         }
     }
 
-    /// tlbre; false where there is no such word.
-    fn read_entry(&mut self, rt: Register, number: u32, word: u32) -> bool
-        ensures { Known result (machine_of self.old) (machine_of self.new) (read_entry rt number (word_numbered word) (machine_of self.old)) }
+    /// tlbre, where there is such a word.
+    fn read_entry(&mut self, rt: Register, number: u32, word: u32) -> Result<(), NoSuchWord>
+        ensures { Known result self.old self.new (read_entry rt number (word_numbered word) self.old) }
     {
-        match Word::numbered(word) {
-            Some(word) => {
-                let entry = self.pages.entry(number);
-                self.take_stid(word, entry.tid);
-                self.give(rt, entry.word(word));
-                true
-            }
-            None => false,
-        }
+        let word = Word::try_from(word)?;
+        let entry = self.pages.entry(number);
+        self.take_stid(word, entry.tid);
+        self.give(rt, entry.word(word));
+        Ok(())
     }
 
-    /// tlbwe; false where there is no such word.
-    fn write_entry(&mut self, number: u32, word: u32, value: u32) -> bool
-        ensures { Known result (machine_of self.old) (machine_of self.new) (write_entry number (word_numbered word) value (machine_of self.old)) }
+    /// tlbwe, where there is such a word.
+    fn write_entry(&mut self, number: u32, word: u32, value: u32) -> Result<(), NoSuchWord>
+        ensures { Known result self.old self.new (write_entry number (word_numbered word) value self.old) }
     {
-        match Word::numbered(word) {
-            Some(word) => {
-                let tid = self.hidden.mmucr.stid;
-                self.pages.write(number, word, value, tid);
-                self.advance();
-                true
-            }
-            None => false,
-        }
+        let word = Word::try_from(word)?;
+        let tid = self.hidden.mmucr.stid;
+        self.pages.write(number, word, value, tid);
+        self.advance();
+        Ok(())
     }
 
     /// Whether an entry was found, to condition field 0.
     fn report(&mut self, rc: bool, hit: bool)
-        ensures { machine_of self.new ≡ with_working (machine_of self.old) (reported rc hit self.old.working) }
+        ensures { self.new ≡ with_working self.old (reported rc hit self.old.working) }
     {
         if rc {
-            let field = hit as u32 * 2 + self.working.xer.so as u32;
+            let field = u32::from(hit) * 2 + u32::from(self.working.xer.so);
             self.working.cr = condition::with_field(self.working.cr, 0, field);
         }
     }
 
     /// tlbsx, tlbsx.
     fn search_entries(&mut self, rt: Register, effective: u32, rc: bool)
-        ensures { machine_of self.new ≡ searched rt rc (found self.old.pages.entries (record { space = self.old.hidden.mmucr.sts; pid = self.old.hidden.mmucr.stid; effective = effective })) (machine_of self.old) }
+        ensures { self.new ≡ searched rt rc (found self.old.entries (record { space = self.old.hidden.mmucr.sts; pid = self.old.hidden.mmucr.stid; effective = effective })) self.old }
     {
         let Mmucr { sts, stid } = self.hidden.mmucr;
         let hit = self.pages.search(VirtualAddress {
@@ -218,14 +187,14 @@ impl Core {
         self.advance();
     }
 
-    /// A privileged deed in supervisor state; false where it names a register that there is not, and then nothing changed.
-    pub fn carry_out(&mut self, deed: Privileged) -> bool
-        ensures { Known result (machine_of self.old) (machine_of self.new) (carried_out deed (machine_of self.old)) }
+    /// A privileged deed in supervisor state. Where it names a register or a word that there is not, nothing changes.
+    pub fn carry_out(&mut self, deed: Privileged) -> Result<(), IllegalDeed>
+        ensures { Known result self.old self.new (carried_out deed self.old) }
     {
         match deed {
-            Privileged::ReadMsr { rt } => self.give(rt, self.shown.msr.word()),
+            Privileged::ReadMsr { rt } => self.give(rt, u32::from(self.shown.msr)),
             Privileged::WriteMsr { value } => {
-                self.set_msr(Msr::from_word(value));
+                self.set_msr(Msr::from(value));
                 self.advance();
             }
             Privileged::WriteExternalEnable { enable } => {
@@ -233,15 +202,13 @@ impl Core {
                 self.advance();
             }
             Privileged::Return => self.return_from_interrupt(),
-            Privileged::ReadSpecial { rt, number } => return self.read_special(rt, number),
-            Privileged::WriteSpecial { number, value } => return self.write_special(number, value),
-            Privileged::ReadEntry { rt, entry, word } => return self.read_entry(rt, entry, word),
-            Privileged::WriteEntry { entry, word, value } => return self.write_entry(
-                entry, word, value,
-            ),
+            Privileged::ReadSpecial { rt, number } => self.read_special(rt, number)?,
+            Privileged::WriteSpecial { number, value } => self.write_special(number, value)?,
+            Privileged::ReadEntry { rt, entry, word } => self.read_entry(rt, entry, word)?,
+            Privileged::WriteEntry { entry, word, value } => self.write_entry(entry, word, value)?,
             Privileged::SearchEntries { rt, address, rc } => self.search_entries(rt, address, rc),
             Privileged::Synchronize => self.advance(),
         }
-        true
+        Ok(())
     }
 }

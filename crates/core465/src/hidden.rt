@@ -2,7 +2,7 @@
 use cpu::registers::Msr;
 
 /// What an interrupt saves: SRR0, SRR1, ESR and DEAR.
-#[derive(Clone, Copy)]
+#[derive(Clone, Copy, PartialEq, Eq, Debug, Default)]
 pub struct Saved {
     pub srr0: u32,
     pub srr1: Msr,
@@ -11,14 +11,14 @@ pub struct Saved {
 }
 
 /// MMUCR: the space and the task that tlbsx searches with.
-#[derive(Clone, Copy)]
+#[derive(Clone, Copy, PartialEq, Eq, Debug, Default)]
 pub struct Mmucr {
     pub sts: bool,
     pub stid: u32,
 }
 
 /// SRR0, SRR1, ESR, DEAR, PID, MMUCR, IVPR, IVOR0 to IVOR15 and SPRG0 to SPRG3.
-#[derive(Clone, Copy)]
+#[derive(Clone, Copy, PartialEq, Eq, Debug, Default)]
 pub struct Hidden {
     pub saved: Saved,
     pub pid: u32,

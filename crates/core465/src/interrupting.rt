@@ -2,7 +2,6 @@
 ghost use Rattle.std.specs.Prelude.{◌≡◌};
 ghost use Rattle.interrupt.specs.Interrupts.{taken};
 ghost use Rattle.core465.specs.Interrupting.{entering, interrupted};
-ghost use Rattle.core465.specs.Machine.{machine_of};
 
 use crate::machine::Core;
 use cpu::registers::Msr;
@@ -14,20 +13,17 @@ fn entering(msr: Msr) -> Msr
 {
     Msr {
         ce: msr.ce,
-        ee: false,
-        pr: false,
         me: msr.me,
         de: msr.de,
-        is: false,
-        ds: false,
+        ..Msr::default()
     }
 }
 
 impl Core {
     /// Takes an interrupt: the core goes on at its vector, in supervisor state.
     pub fn interrupt(&mut self, cause: Cause) -> Taken
-        ensures answer { result ≡ taken cause (machine_of self.old).working.pc }
-        ensures after { machine_of self.new ≡ interrupted cause (machine_of self.old) }
+        ensures answer { result ≡ taken cause self.old.working.pc }
+        ensures after { self.new ≡ interrupted cause self.old }
     {
         let counter = self.working.pc;
         let msr = self.shown.msr;

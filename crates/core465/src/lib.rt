@@ -12,5 +12,6 @@ pub mod special;
 mod values;
 mod view;
 
+pub use deeds::IllegalDeed;
 pub use machine::Core;
 pub use values::known_values;

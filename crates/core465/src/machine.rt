@@ -1,11 +1,8 @@
 //! A core's registers and page entries, with what always holds of them.
-ghost use Rattle.cpu.specs.Kept.{Kept};
-ghost use Rattle.core465.specs.Entries.{EntriesKept};
-ghost use Rattle.core465.specs.Hidden.{SavedKept, TaskKept, VectorsKept};
-
 use crate::hidden::Hidden;
 use cpu::registers::{Shown, Working};
 use pages::Pages;
+use std::marker::Model;
 
 /// A core: the registers by what user state may do with them, and the page entries. Every register and entry holds only
 /// the bits that it keeps, and the program counter is a multiple of four.
@@ -15,9 +12,16 @@ pub struct Core {
     pub(crate) shown: Shown,
     pub(crate) hidden: Hidden,
     pub(crate) pages: Pages,
-    ghost working_kept: { Kept working },
-    ghost saved_kept: { SavedKept hidden },
-    ghost task_kept: { TaskKept hidden },
-    ghost vectors_kept: { VectorsKept hidden },
-    ghost entries_kept: { EntriesKept pages.entries },
+}
+
+impl Model for Core {
+    ghost use Rattle.core465.specs.Machine.{Machine, MachineKept};
+
+    ghost Value = { Machine };
+
+    ghost use Rattle.core465.specs.Cores.{machine_of};
+
+    ghost view = { machine_of };
+
+    ghost invariant = { λ c. MachineKept (machine_of c) };
 }

@@ -3,32 +3,31 @@ ghost use Rattle.std.specs.Prelude.{◌≡◌};
 ghost use Rattle.cpu.specs.Effects.{effect, effect_of, Waits};
 ghost use Rattle.cpu.specs.Memory.{received, stored, settled};
 ghost use Rattle.core465.specs.Deeds.{with_working};
-ghost use Rattle.core465.specs.Machine.{machine_of};
 ghost use Rattle.core465.specs.Reaching.{seen, external, space_of, reach};
 
 use crate::machine::Core;
 use cpu::deed::{Deed, Loading, Storing};
 use isa::instruction::Instruction;
-use pages::{Access, Translation, VirtualAddress};
+use pages::{Access, PageFault, Right, VirtualAddress};
 
 impl Core {
     /// Whether an external interrupt is due: the line is up, and they are enabled.
     pub fn external(&self) -> bool
-        ensures { result ≡ external (seen (machine_of self.now)) }
+        ensures { result ≡ external (seen self.now) }
     {
         self.shown.line && self.shown.msr.ee
     }
 
     /// Whether the core is in user state.
     pub fn user(&self) -> bool
-        ensures { result ≡ (machine_of self.now).shown.msr.pr }
+        ensures { result ≡ self.now.shown.msr.pr }
     {
         self.shown.msr.pr
     }
 
     /// The program counter.
     pub fn counter(&self) -> u32
-        ensures { result ≡ (machine_of self.now).working.pc }
+        ensures { result ≡ self.now.working.pc }
     {
         self.working.pc
     }
@@ -39,49 +38,52 @@ impl Core {
     {
         match access {
             Access::Fetch => self.shown.msr.is,
-            Access::Load => self.shown.msr.ds,
-            Access::Store => self.shown.msr.ds,
+            Access::Load | Access::Store => self.shown.msr.ds,
         }
     }
 
-    /// What an access to an effective address gets.
-    pub fn translate(&self, access: Access, effective: u32) -> Translation
-        ensures { result ≡ reach (machine_of self.now) access effective }
+    /// The real address of an access to an effective address.
+    pub fn translate(&self, access: Access, effective: u32) -> Result<u64, PageFault>
+        ensures { result ≡ reach self.now access effective }
     {
         let address = VirtualAddress {
             space: self.space(access),
             pid: self.hidden.pid,
             effective,
         };
-        self.pages.translate(address, self.shown.msr.pr, access)
+        let right = Right {
+            user: self.shown.msr.pr,
+            access,
+        };
+        self.pages.translate(address, right)
     }
 
     /// The register part of an instruction: it is done, or what is left to do is told and no register is altered yet.
     pub fn perform(&mut self, instruction: Instruction) -> Deed
-        ensures same { effect_of result (machine_of self.new).working ≡ effect instruction (seen (machine_of self.old)) }
-        ensures waits { Waits result (machine_of self.old).working (machine_of self.new).working }
-        ensures rest { machine_of self.new ≡ with_working (machine_of self.old) (machine_of self.new).working }
+        ensures same { effect_of result self.new.working ≡ effect instruction (seen self.old) }
+        ensures waits { Waits result self.old.working self.new.working }
+        ensures rest { self.new ≡ with_working self.old self.new.working }
     {
         self.working.perform(&self.shown, instruction)
     }
 
     /// A load's end, once its value is there.
     pub fn receive(&mut self, loading: Loading, value: u32)
-        ensures { machine_of self.new ≡ with_working (machine_of self.old) (received loading value (machine_of self.old).working) }
+        ensures { self.new ≡ with_working self.old (received loading value self.old.working) }
     {
         self.working.receive(loading, value);
     }
 
     /// A store's end, once it is made.
     pub fn conclude(&mut self, storing: Storing)
-        ensures { machine_of self.new ≡ with_working (machine_of self.old) (stored storing (machine_of self.old).working) }
+        ensures { self.new ≡ with_working self.old (stored storing self.old.working) }
     {
         self.working.conclude(storing);
     }
 
     /// A conditional store's end: whether it stored.
     pub fn settle(&mut self, stored: bool)
-        ensures { machine_of self.new ≡ with_working (machine_of self.old) (settled stored (machine_of self.old).working) }
+        ensures { self.new ≡ with_working self.old (settled stored self.old.working) }
     {
         self.working.settle(stored);
     }

@@ -1,6 +1,8 @@
 //! What a core holds, as copies to look at.
 ghost use Rattle.std.specs.Prelude.{◌≡◌};
-ghost use Rattle.core465.specs.Machine.{machine_of};
+ghost use Rattle.cpu.specs.Kept.{Kept};
+ghost use Rattle.pages.specs.Entries.{AllKept};
+ghost use Rattle.core465.specs.Hidden.{HiddenKept};
 ghost use Rattle.pages.specs.Tables.{selected};
 
 use crate::hidden::Hidden;
@@ -11,28 +13,31 @@ use pages::Entry;
 impl Core {
     /// The registers that user state may alter.
     pub fn working(&self) -> Working
-        ensures { result ≡ (machine_of self.now).working }
+        ensures value { result ≡ self.now.working }
+        ensures kept { Kept result }
     {
         self.working
     }
 
     /// The registers that user state sees and does not alter.
     pub fn shown(&self) -> Shown
-        ensures { result ≡ (machine_of self.now).shown }
+        ensures { result ≡ self.now.shown }
     {
         self.shown
     }
 
     /// The registers that user state does not see.
     pub fn hidden(&self) -> Hidden
-        ensures { result ≡ (machine_of self.now).hidden }
+        ensures value { result ≡ self.now.hidden }
+        ensures kept { HiddenKept result }
     {
         self.hidden
     }
 
     /// The page entry that the low six bits of a number name.
     pub fn entry(&self, number: u32) -> Entry
-        ensures { result ≡ selected (machine_of self.now).entries number }
+        ensures value { result ≡ selected self.now.entries number }
+        ensures kept { AllKept self.now.entries }
     {
         self.pages.entry(number)
     }

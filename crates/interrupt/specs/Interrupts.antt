@@ -1,11 +1,12 @@
 -- The interrupts: numbers, and what each tells of its cause. Assumes nothing.
-use Rattle.std.specs.Prelude.{ℕ, ◌+◌, ◌%◌, ◌^◌, cond, Some, None, Option}
+use Rattle.std.specs.Prelude.{ℕ, ◌+◌, ◌%◌, ◌^◌, Some, None, Option}
 use Rattle.std.specs.Option.{unwrap_or}
 use Rattle.interrupt.specs.declared.Interrupt.{Interrupt}
 use Rattle.interrupt.specs.declared.Interrupt.TheVariants as told
 use Rattle.interrupt.specs.declared.ProgramFault.{ProgramFault}
 use Rattle.interrupt.specs.declared.ProgramFault.TheVariants.{Illegal, Privileged, Trap}
-use Rattle.interrupt.specs.declared.DataAccess.{DataAccess}
+use Rattle.interrupt.specs.declared.DataKind.{DataKind}
+use Rattle.interrupt.specs.declared.DataKind.TheVariants.{Load, Store}
 use Rattle.interrupt.specs.declared.Cause.{Cause}
 use Rattle.interrupt.specs.declared.Cause.TheVariants.{ExternalInput, InstructionTlbError, InstructionStorage, Program, SystemCall, DataTlbError, DataStorage, Alignment}
 use Rattle.interrupt.specs.declared.Taken.{Taken}
@@ -38,8 +39,9 @@ fault_bit Illegal = 0x08000000
 fault_bit Privileged = 0x04000000
 fault_bit Trap = 0x02000000
 
-abbrev pub store_bit : DataAccess → ℕ
-store_bit a = cond a.store 0x00800000 0
+abbrev pub store_bit : DataKind → ℕ
+store_bit Load = 0
+store_bit Store = 0x00800000
 
 -- what ESR is set to, and what DEAR, where they are
 abbrev pub esr_of : Cause → Option ℕ
@@ -48,9 +50,9 @@ esr_of InstructionTlbError = None
 esr_of InstructionStorage = Some 0
 esr_of (Program f) = Some (fault_bit f)
 esr_of SystemCall = None
-esr_of (DataTlbError a) = Some (store_bit a)
-esr_of (DataStorage a) = Some (store_bit a)
-esr_of (Alignment a) = Some (store_bit a)
+esr_of (DataTlbError a) = Some (store_bit a.kind)
+esr_of (DataStorage a) = Some (store_bit a.kind)
+esr_of (Alignment a) = Some (store_bit a.kind)
 
 abbrev pub dear_of : Cause → Option ℕ
 dear_of ExternalInput = None

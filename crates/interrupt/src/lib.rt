@@ -4,21 +4,21 @@
 ghost use Rattle.std.specs.Prelude.{◌≡◌, ℕ, ◌<◌};
 ghost use Rattle.interrupt.specs.Interrupts.{number_of, interrupt_of, fault_bit, store_bit, esr_of, dear_of, return_to, taken};
 
-/// An interrupt that a core takes.
+/// An interrupt that a core takes, by its number.
 #[derive(Clone, Copy, PartialEq, Eq, Debug)]
 pub enum Interrupt {
-    DataStorage,
-    InstructionStorage,
-    ExternalInput,
-    Alignment,
-    Program,
-    SystemCall,
-    DataTlbError,
-    InstructionTlbError,
+    DataStorage = 2,
+    InstructionStorage = 3,
+    ExternalInput = 4,
+    Alignment = 5,
+    Program = 6,
+    SystemCall = 8,
+    DataTlbError = 13,
+    InstructionTlbError = 14,
 }
 
 /// Why an instruction brings about a Program interrupt.
-#[derive(Clone, Copy)]
+#[derive(Clone, Copy, PartialEq, Eq, Debug)]
 pub enum ProgramFault {
     /// The word is no instruction, or names a register that there is not.
     Illegal,
@@ -28,15 +28,22 @@ pub enum ProgramFault {
     Trap,
 }
 
+/// Whether data is read or written.
+#[derive(Clone, Copy, PartialEq, Eq, Debug)]
+pub enum DataKind {
+    Load,
+    Store,
+}
+
 /// A load or a store, by its effective address.
-#[derive(Clone, Copy)]
+#[derive(Clone, Copy, PartialEq, Eq, Debug)]
 pub struct DataAccess {
     pub effective: u32,
-    pub store: bool,
+    pub kind: DataKind,
 }
 
 /// What brings about an interrupt.
-#[derive(Clone, Copy)]
+#[derive(Clone, Copy, PartialEq, Eq, Debug)]
 pub enum Cause {
     /// The external line is up, and its interrupts are enabled.
     ExternalInput,
@@ -68,16 +75,7 @@ impl Interrupt {
     pub fn number(self) -> u32
         ensures { (result ≡ number_of self) × (result < 16) }
     {
-        match self {
-            Interrupt::DataStorage => 2,
-            Interrupt::InstructionStorage => 3,
-            Interrupt::ExternalInput => 4,
-            Interrupt::Alignment => 5,
-            Interrupt::Program => 6,
-            Interrupt::SystemCall => 8,
-            Interrupt::DataTlbError => 13,
-            Interrupt::InstructionTlbError => 14,
-        }
+        self as u32
     }
 
     /// The return address, from the counter at the step's start: a system call returns behind itself, any other
@@ -105,12 +103,15 @@ impl ProgramFault {
     }
 }
 
-impl DataAccess {
+impl DataKind {
     /// ESR's bit ST for a store, 0 for a load.
     fn bit(self) -> u32
         ensures { result ≡ store_bit self }
     {
-        if self.store { 0x0080_0000 } else { 0 }
+        match self {
+            DataKind::Load => 0,
+            DataKind::Store => 0x0080_0000,
+        }
     }
 }
 
@@ -136,14 +137,11 @@ impl Cause {
         ensures { result ≡ esr_of self }
     {
         match self {
-            Cause::ExternalInput => None,
-            Cause::InstructionTlbError => None,
+            Cause::ExternalInput | Cause::InstructionTlbError | Cause::SystemCall => None,
             Cause::InstructionStorage => Some(0),
             Cause::Program(fault) => Some(fault.bit()),
-            Cause::SystemCall => None,
-            Cause::DataTlbError(access) => Some(access.bit()),
-            Cause::DataStorage(access) => Some(access.bit()),
-            Cause::Alignment(access) => Some(access.bit()),
+            Cause::DataTlbError(access) | Cause::DataStorage(access) | Cause::Alignment(access) =>
+                Some(access.kind.bit()),
         }
     }
 
@@ -152,14 +150,13 @@ impl Cause {
         ensures { result ≡ dear_of self }
     {
         match self {
-            Cause::ExternalInput => None,
-            Cause::InstructionTlbError => None,
-            Cause::InstructionStorage => None,
-            Cause::Program(_) => None,
-            Cause::SystemCall => None,
-            Cause::DataTlbError(access) => Some(access.effective),
-            Cause::DataStorage(access) => Some(access.effective),
-            Cause::Alignment(access) => Some(access.effective),
+            Cause::ExternalInput
+            | Cause::InstructionTlbError
+            | Cause::InstructionStorage
+            | Cause::Program(_)
+            | Cause::SystemCall => None,
+            Cause::DataTlbError(access) | Cause::DataStorage(access) | Cause::Alignment(access) =>
+                Some(access.effective),
         }
     }
 

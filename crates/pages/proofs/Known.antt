@@ -6,4 +6,4 @@ use Rattle.pages.specs.Known.{KnownTranslation}
 
 pub known_translation : KnownTranslation
 unfolding translate found
-known_translation word2 pid others user access h = cond-true _ _ _ h
+known_translation word2 pid others right h = cond-true _ _ _ h

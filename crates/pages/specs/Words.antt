@@ -1,8 +1,9 @@
 -- The words of an entry by number.
-use Rattle.std.specs.Prelude.{ℕ, cond, Some, None, Option, ◌==◌}
+use Rattle.std.specs.Prelude.{ℕ, cond, Ok, Err, Result, ◌==◌}
 use Rattle.pages.specs.declared.entry.Word.{Word}
 use Rattle.pages.specs.declared.entry.Word.TheVariants.{PageId, Xlat, Attrib}
+use Rattle.pages.specs.declared.entry.NoSuchWord.{NoSuchWord}
 
 -- the word that a WS field names
-abbrev pub word_numbered : ℕ → Option Word
-word_numbered ws = cond (ws == 0) (Some PageId) (cond (ws == 1) (Some Xlat) (cond (ws == 2) (Some Attrib) None))
+abbrev pub word_numbered : ℕ → Result Word NoSuchWord
+word_numbered ws = cond (ws == 0) (Ok PageId) (cond (ws == 1) (Ok Xlat) (cond (ws == 2) (Ok Attrib) (Err (record {}))))

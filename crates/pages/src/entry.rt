@@ -3,6 +3,9 @@ ghost use Rattle.std.specs.Prelude.{◌≡◌, Decides};
 ghost use Rattle.pages.specs.Entries.{kept_of, Kept, word_of, rewritten};
 ghost use Rattle.pages.specs.Words.{word_numbered};
 
+use std::error::Error;
+use std::fmt;
+
 // The bits that an entry keeps of its TID and of each word.
 const TID_BITS: u32 = 0xFF;
 
@@ -13,7 +16,7 @@ const WORD1_BITS: u32 = 0xFFFF_FC0F;
 const WORD2_BITS: u32 = 0xFFBF;
 
 /// A page entry. Some bits of its words have no meaning, and an entry of the table holds zeros there.
-#[derive(Clone, Copy, PartialEq, Eq, Debug)]
+#[derive(Clone, Copy, PartialEq, Eq, Default, Debug)]
 pub struct Entry {
     /// TID, the process that the page belongs to, or 0 for a page of all processes.
     pub tid: u32,
@@ -26,7 +29,7 @@ pub struct Entry {
 }
 
 /// A word of an entry, as the WS field of tlbre and tlbwe names it.
-#[derive(Clone, Copy, PartialEq, Eq)]
+#[derive(Clone, Copy, PartialEq, Eq, Debug)]
 pub enum Word {
     /// WS 0: the page and its size.
     PageId,
@@ -36,16 +39,30 @@ pub enum Word {
     Attrib,
 }
 
-impl Word {
-    /// The word that a WS field names, or none for 3 and above.
-    pub fn numbered(ws: u32) -> Option<Word>
-        ensures { result ≡ word_numbered ws }
-    {
+/// An entry has only three words.
+#[derive(Clone, Copy, PartialEq, Eq, Debug)]
+pub struct NoSuchWord;
+
+impl fmt::Display for NoSuchWord {
+    fn fmt<W: fmt::Write>(&self, f: &mut fmt::Formatter<W>) -> fmt::Result {
+        write!(f, "a page entry has only the words 0 to 2")
+    }
+}
+
+impl Error for NoSuchWord {}
+
+impl TryFrom<u32> for Word {
+    type Error = NoSuchWord;
+
+    ghost try_from_gives = { λ ws r. r ≡ word_numbered ws };
+
+    /// The word that a WS field names.
+    fn try_from(ws: u32) -> Result<Word, NoSuchWord> {
         match ws {
-            0 => Some(Word::PageId),
-            1 => Some(Word::Xlat),
-            2 => Some(Word::Attrib),
-            _ => None,
+            0 => Ok(Word::PageId),
+            1 => Ok(Word::Xlat),
+            2 => Ok(Word::Attrib),
+            _ => Err(NoSuchWord),
         }
     }
 }
@@ -68,11 +85,7 @@ impl Entry {
     pub fn is_kept(&self) -> bool
         ensures { Decides result (Kept self.now) }
     {
-        let kept = self.kept();
-        self.tid == kept.tid
-            && self.word0 == kept.word0
-            && self.word1 == kept.word1
-            && self.word2 == kept.word2
+        *self == self.kept()
     }
 
     /// One of the three words.

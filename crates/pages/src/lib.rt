@@ -7,7 +7,7 @@ mod matching;
 mod table;
 mod translation;
 
-pub use entry::{Entry, Word};
+pub use entry::{Entry, NoSuchWord, Word};
 pub use matching::VirtualAddress;
 pub use table::{NoSuchEntry, Pages};
-pub use translation::{Access, Translation};
+pub use translation::{Access, PageFault, Right};

@@ -7,11 +7,21 @@ ghost use Rattle.pages.specs.Tables.{with_entry, selected, written};
 
 use crate::entry::{Entry, Word};
 use crate::matching::{VirtualAddress, first};
-use crate::translation::{Access, Translation};
+use crate::translation::{PageFault, Right};
+use std::error::Error;
+use std::fmt;
 
 /// There are only 64 entries.
 #[derive(Clone, Copy, PartialEq, Eq, Debug)]
 pub struct NoSuchEntry;
+
+impl fmt::Display for NoSuchEntry {
+    fn fmt<W: fmt::Write>(&self, f: &mut fmt::Formatter<W>) -> fmt::Result {
+        write!(f, "there are only the page entries 0 to 63")
+    }
+}
+
+impl Error for NoSuchEntry {}
 
 /// The page entries, by number.
 #[derive(Drop)]
@@ -26,38 +36,28 @@ impl Pages {
         ensures kept { AllKept result.entries }
     {
         Pages {
-            entries: [Entry {
-                tid: 0,
-                word0: 0,
-                word1: 0,
-                word2: 0,
-            }; 64],
+            entries: [Entry::default(); 64],
         }
     }
 
     /// The number of the first entry that the address matches.
+    #[tactic(auto, using(crate::proofs::Searching::lowest_found))]
     pub fn search(&self, address: VirtualAddress) -> Option<u32>
         ensures value { result ≡ found self.now.entries address }
         ensures lowest { Lowest self.now.entries address result }
         ensures number { IfSome result (λ n. n < 64) }
     {
-        match first(&self.entries, &address) {
-            Some(number) => Some(number as u32),
-            None => None,
-        }
+        first(&self.entries, &address).map(|number| number as u32)
     }
 
-    /// What an access to the address gets, in user state or in supervisor state.
-    pub fn translate(&self, address: VirtualAddress, user: bool, access: Access) -> Translation
-        ensures value { result ≡ translate self.now.entries address user access }
+    /// The real address of an access to the address, which needs the right.
+    #[tactic(auto, unfolding(crate::specs::Translating::translate))]
+    pub fn translate(&self, address: VirtualAddress, right: Right) -> Result<u64, PageFault>
+        ensures value { result ≡ translate self.now.entries address right }
         ensures real { InReal result }
     {
-        match self.search(address) {
-            Some(number) => {
-                self.entries[number as usize].through(address.effective, user, access)
-            }
-            None => Translation::Miss,
-        }
+        let number = self.search(address).ok_or(PageFault::Miss)?;
+        self.entries[number as usize].through(address.effective, right)
     }
 
     /// The entry that the low six bits of `selector` name, as tlbre reads it.

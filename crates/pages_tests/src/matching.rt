@@ -70,7 +70,7 @@ const ENDS: [(u32, u32, bool); 8] = [
 fn the_first_and_the_last_page_match(rt: HostRuntime) -> Result<(), Fail> {
     for (word0, effective, matches) in &ENDS {
         let pages = only(63, entry(0, *word0, 0, 0))?;
-        let found = if *matches { Some(63) } else { None };
+        let found = matches.then_some(63);
         assert_eq!(rt; pages.search(plain(*effective)), found, "at {effective}");
     }
     Ok(())
@@ -108,7 +108,7 @@ fn valid_space_and_process_count(rt: HostRuntime) -> Result<(), Fail> {
             pid: *pid,
             effective: 0x1234,
         };
-        let found = if *matches { Some(9) } else { None };
+        let found = matches.then_some(9);
         assert_eq!(rt; pages.search(address), found, "case {i}");
     }
     Ok(())

@@ -1,6 +1,6 @@
 //! Entries as they are rewritten, replaced and read.
 use crate::setup::*;
-use pages::{Entry, NoSuchEntry, Pages, Word};
+use pages::{Entry, NoSuchEntry, NoSuchWord, Pages, Word};
 use std::process::Abort;
 use std::test::Fail;
 
@@ -40,7 +40,7 @@ const WRITES: [(u32, u32, u32, [u32; 4]); 9] = [
 fn write_through(rt: &impl Abort, selector: u32, number: u32) -> Result<(), Fail> {
     let mut pages = Pages::empty();
     for (i, (ws, value, tid, after)) in WRITES.iter().enumerate() {
-        let word = Word::numbered(*ws).ok_or("no such word")?;
+        let word = Word::try_from(*ws)?;
         pages.write(selector, word, *value, *tid);
         holds_only(rt, &pages, i, number, *after);
         assert_eq!(rt; pages.entry(selector), made(*after), "read {i}");
@@ -136,13 +136,10 @@ fn bits_are_kept_one_by_one(rt: HostRuntime) {
 fn ws_names_three_words(rt: HostRuntime) -> Result<(), Fail> {
     let given = entry(1, 0x10, 0x20, 0x30);
     for (ws, value) in [(0u32, 0x10), (1, 0x20), (2, 0x30)] {
-        assert_eq!(rt;
-            given.word(Word::numbered(ws).ok_or("no such word")?),
-            value
-        );
+        assert_eq!(rt; given.word(Word::try_from(ws)?), value);
     }
     for ws in [3u32, 4, 31, FULL] {
-        assert!(rt; Word::numbered(ws).is_none());
+        assert_eq!(rt; Word::try_from(ws), Err(NoSuchWord));
     }
     Ok(())
 }

@@ -1,7 +1,37 @@
 //! What an access to an address gets.
 use crate::setup::*;
-use pages::{Access, Pages, Translation, VirtualAddress};
+use pages::{Access, PageFault, Pages, Right, VirtualAddress};
 use std::test::Fail;
+
+const USER_FETCH: Right = Right {
+    user: true,
+    access: Access::Fetch,
+};
+
+const USER_LOAD: Right = Right {
+    user: true,
+    access: Access::Load,
+};
+
+const USER_STORE: Right = Right {
+    user: true,
+    access: Access::Store,
+};
+
+const SUPERVISOR_FETCH: Right = Right {
+    user: false,
+    access: Access::Fetch,
+};
+
+const SUPERVISOR_LOAD: Right = Right {
+    user: false,
+    access: Access::Load,
+};
+
+const SUPERVISOR_STORE: Right = Right {
+    user: false,
+    access: Access::Store,
+};
 
 /// SIZE, the first address of the page of that size around 0x12345400 and the real one that it is taken to by an entry
 /// with RPN 0xABCDEC00 and ERPN 7, and the last address of the page with its real one.
@@ -21,14 +51,14 @@ fn the_page_part_is_replaced(rt: HostRuntime) -> Result<(), Fail> {
     for (size, first, real_first, last, real_last) in &REALS {
         let pages = only(40, entry(1, 0x1234_5600 | (*size << 4), 0xABCD_EC07, 0x08))?;
         let rows = [
-            (*first, Translation::Real(*real_first)),
-            (*last, Translation::Real(*real_last)),
-            (first.wrapping_sub(1), Translation::Miss),
-            (last.wrapping_add(1), Translation::Miss),
+            (*first, Ok(*real_first)),
+            (*last, Ok(*real_last)),
+            (first.wrapping_sub(1), Err(PageFault::Miss)),
+            (last.wrapping_add(1), Err(PageFault::Miss)),
         ];
         for (effective, gives) in rows {
             assert_eq!(rt;
-                pages.translate(plain(effective), true, Access::Load),
+                pages.translate(plain(effective), USER_LOAD),
                 gives,
                 "SIZE {size} at {effective}"
             );
@@ -42,41 +72,41 @@ fn the_upper_bits_are_erpn(rt: HostRuntime) -> Result<(), Fail> {
     let mut upper = 0u64;
     for erpn in 0u32..16 {
         let pages = only(1, entry(0, 0x0000_0200, 0x8765_4400 | erpn, 0x3F))?;
-        let gives = Translation::Real(upper | 0x8765_4721);
-        assert_eq!(rt; pages.translate(plain(0x321), false, Access::Fetch), gives);
+        let gives = Ok(upper | 0x8765_4721);
+        assert_eq!(rt; pages.translate(plain(0x321), SUPERVISOR_FETCH), gives);
         upper = upper.wrapping_add(0x1_0000_0000);
     }
     Ok(())
 }
 
-/// A right's bit of word 2, the state and the access that it is for.
-const RIGHTS: [(u32, bool, Access); 6] = [
-    (0x20, true, Access::Fetch),
-    (0x10, true, Access::Store),
-    (0x08, true, Access::Load),
-    (0x04, false, Access::Fetch),
-    (0x02, false, Access::Store),
-    (0x01, false, Access::Load),
+/// The bit of word 2 that grants each right.
+const RIGHTS: [(u32, Right); 6] = [
+    (0x20, USER_FETCH),
+    (0x10, USER_STORE),
+    (0x08, USER_LOAD),
+    (0x04, SUPERVISOR_FETCH),
+    (0x02, SUPERVISOR_STORE),
+    (0x01, SUPERVISOR_LOAD),
 ];
 
 #[test]
 fn each_right_grants_one_access_in_one_state(rt: HostRuntime) -> Result<(), Fail> {
-    for (i, (bit, _, _)) in RIGHTS.iter().enumerate() {
+    for (i, (bit, _)) in RIGHTS.iter().enumerate() {
         let one = only(0, entry(0, 0x0000_0210, 0x0000_5000, *bit))?;
         let others = only(0, entry(0, 0x0000_0210, 0x0000_5000, 0xFFBF ^ *bit))?;
-        for (k, (_, user, access)) in RIGHTS.iter().enumerate() {
+        for (k, (_, right)) in RIGHTS.iter().enumerate() {
             let (alone, among) = if i == k {
-                (Translation::Real(0x5678), Translation::Denied)
+                (Ok(0x5678), Err(PageFault::Denied))
             } else {
-                (Translation::Denied, Translation::Real(0x5678))
+                (Err(PageFault::Denied), Ok(0x5678))
             };
             assert_eq!(rt;
-                one.translate(plain(0x678), *user, *access),
+                one.translate(plain(0x678), *right),
                 alone,
                 "right {i} for access {k}"
             );
             assert_eq!(rt;
-                others.translate(plain(0x678), *user, *access),
+                others.translate(plain(0x678), *right),
                 among,
                 "all but right {i} for access {k}"
             );
@@ -91,20 +121,20 @@ fn the_first_match_decides_even_if_it_denies(rt: HostRuntime) -> Result<(), Fail
     pages.put(5, entry(0, 0x0000_0210, 0x0000_5000, 0x08))?;
     pages.put(4, entry(0, 0x0000_0210, 0x0000_4000, 0x01))?;
     let (user, supervisor) = both(&pages, 0x678);
-    assert_eq!(rt; user, Translation::Denied);
-    assert_eq!(rt; supervisor, Translation::Real(0x4678));
+    assert_eq!(rt; user, Err(PageFault::Denied));
+    assert_eq!(rt; supervisor, Ok(0x4678));
     pages.put(4, entry(0, 0, 0, 0x3F))?;
     let (user, supervisor) = both(&pages, 0x678);
-    assert_eq!(rt; user, Translation::Real(0x5678));
-    assert_eq!(rt; supervisor, Translation::Denied);
+    assert_eq!(rt; user, Ok(0x5678));
+    assert_eq!(rt; supervisor, Err(PageFault::Denied));
     Ok(())
 }
 
 /// What a load gets in user state and in supervisor state.
-fn both(pages: &Pages, effective: u32) -> (Translation, Translation) {
+fn both(pages: &Pages, effective: u32) -> (Result<u64, PageFault>, Result<u64, PageFault>) {
     (
-        pages.translate(plain(effective), true, Access::Load),
-        pages.translate(plain(effective), false, Access::Load),
+        pages.translate(plain(effective), USER_LOAD),
+        pages.translate(plain(effective), SUPERVISOR_LOAD),
     )
 }
 
@@ -115,12 +145,12 @@ fn space_and_process_of_the_address_count(rt: HostRuntime) -> Result<(), Fail> {
     pages.put(1, entry(2, 0x0000_0210, 0x0000_2000, 0x3F))?;
     pages.put(2, entry(0, 0x0000_0310, 0x0000_3000, 0x3F))?;
     let rows = [
-        (false, 1, Translation::Real(0x1004)),
-        (false, 2, Translation::Real(0x2004)),
-        (false, 3, Translation::Miss),
-        (false, 0, Translation::Miss),
-        (true, 1, Translation::Real(0x3004)),
-        (true, 3, Translation::Real(0x3004)),
+        (false, 1, Ok(0x1004)),
+        (false, 2, Ok(0x2004)),
+        (false, 3, Err(PageFault::Miss)),
+        (false, 0, Err(PageFault::Miss)),
+        (true, 1, Ok(0x3004)),
+        (true, 3, Ok(0x3004)),
     ];
     for (space, pid, gives) in rows {
         let address = VirtualAddress {
@@ -128,7 +158,7 @@ fn space_and_process_of_the_address_count(rt: HostRuntime) -> Result<(), Fail> {
             pid,
             effective: 4,
         };
-        assert_eq!(rt; pages.translate(address, true, Access::Store), gives);
+        assert_eq!(rt; pages.translate(address, USER_STORE), gives);
     }
     Ok(())
 }
@@ -137,15 +167,12 @@ fn space_and_process_of_the_address_count(rt: HostRuntime) -> Result<(), Fail> {
 fn the_megabyte_page_ends_at_the_next_megabyte(rt: HostRuntime) -> Result<(), Fail> {
     let pages = only(0, entry(0, 0x0010_0250, 0x0030_0001, 0x3F))?;
     let rows = [
-        (0x001A_BCDE, Translation::Real(0x1_003A_BCDE)),
-        (0x0020_0000, Translation::Miss),
-        (0x000F_FFFF, Translation::Miss),
+        (0x001A_BCDE, Ok(0x1_003A_BCDE)),
+        (0x0020_0000, Err(PageFault::Miss)),
+        (0x000F_FFFF, Err(PageFault::Miss)),
     ];
     for (effective, gives) in rows {
-        assert_eq!(rt;
-            pages.translate(plain(effective), true, Access::Load),
-            gives
-        );
+        assert_eq!(rt; pages.translate(plain(effective), USER_LOAD), gives);
     }
     Ok(())
 }
@@ -154,10 +181,10 @@ fn the_megabyte_page_ends_at_the_next_megabyte(rt: HostRuntime) -> Result<(), Fa
 fn an_empty_table_misses(rt: HostRuntime) {
     let pages = Pages::empty();
     for effective in [0, 1, 0x0010_0000, 0x8000_0000, 0xFFFF_FFFF] {
-        for (_, user, access) in &RIGHTS {
+        for (_, right) in &RIGHTS {
             assert_eq!(rt;
-                pages.translate(plain(effective), *user, *access),
-                Translation::Miss
+                pages.translate(plain(effective), *right),
+                Err(PageFault::Miss)
             );
         }
     }

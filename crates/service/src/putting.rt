@@ -2,7 +2,6 @@
 ghost use Rattle.std.specs.Prelude.{◌≡◌, ℕ, ◌<◌, Bool};
 ghost use Rattle.std.specs.Option.{unwrap_or};
 ghost use Rattle.cpu.specs.Known.{Known};
-ghost use Rattle.core465.specs.Machine.{machine_of};
 ghost use Rattle.service.specs.Putting.{fits, mask_of, entry_fits, put_number, put_special, put_answer, put_machine};
 
 use core465::Core;
@@ -78,7 +77,7 @@ fn entry_fits(entry: Entry) -> bool
 
 /// Puts a special purpose register; false where it does not fit, and then nothing changed.
 fn put_special(core: &mut Core, number: u32, value: u32) -> bool
-    ensures { Known result (machine_of core.old) (machine_of core.new) (put_special number value (machine_of core.old)) }
+    ensures { Known result core.old core.new (put_special number value core.old) }
 {
     match mask_of(number) {
         Some(mask) if fits(mask, value) => core.set_numbered(number, value),
@@ -88,7 +87,7 @@ fn put_special(core: &mut Core, number: u32, value: u32) -> bool
 
 /// Puts a register or a page entry; false where it does not fit, and then nothing changed.
 fn try_put(core: &mut Core, put: Put) -> bool
-    ensures { Known result (machine_of core.old) (machine_of core.new) (put_machine put (machine_of core.old)) }
+    ensures { Known result core.old core.new (put_machine put core.old) }
 {
     match put {
         Put::Gpr { number, value } if number < 32 => core.set_word(number, value),
@@ -105,8 +104,8 @@ fn try_put(core: &mut Core, put: Put) -> bool
 
 /// Puts a register or a page entry.
 pub fn put_value(core: &mut Core, what: Put) -> Result<(), PutRefusal>
-    ensures answer { result ≡ put_answer (put_machine what (machine_of core.old)) }
-    ensures after { machine_of core.new ≡ unwrap_or (put_machine what (machine_of core.old)) (machine_of core.old) }
+    ensures answer { result ≡ put_answer (put_machine what core.old) }
+    ensures after { core.new ≡ unwrap_or (put_machine what core.old) core.old }
 {
     if try_put(core, what) {
         Ok(())

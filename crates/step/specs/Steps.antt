@@ -6,8 +6,7 @@ use Rattle.interrupt.specs.declared.Cause.TheVariants.{Program}
 use Rattle.interrupt.specs.declared.ProgramFault.TheVariants.{Illegal}
 use Rattle.interrupt.specs.Interrupts.{taken}
 use Rattle.cpu.specs.declared.registers.Working.{Working}
-use Rattle.core465.specs.declared.machine.Core.{Core}
-use Rattle.core465.specs.Machine.{Machine, machine_of}
+use Rattle.core465.specs.Machine.{Machine}
 use Rattle.core465.specs.Deeds.{with_working, carried_out}
 use Rattle.core465.specs.Interrupting.{interrupted}
 use Rattle.core465.specs.Reaching.{seen, reach}
@@ -56,8 +55,8 @@ unfoldable pub stepped : State → Stepped
 stepped s = enacted s (planned (seen s.machine) (reach s.machine) s.bus)
 
 -- a core over a bus, as the state that the specification steps
-abbrev pub state_of : Core → Model → State
-state_of k m = record { machine = machine_of k; bus = m }
+abbrev pub state_of : Machine → Model → State
+state_of k m = record { machine = k; bus = m }
 
-abbrev pub outcome : Answer → Core → Model → Stepped
+abbrev pub outcome : Answer → Machine → Model → Stepped
 outcome a k m = record { answer = a; state = state_of k m }

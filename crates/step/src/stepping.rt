@@ -3,7 +3,6 @@ ghost use Rattle.std.specs.Prelude.{◌≡◌, ℕ, ◌%◌, false};
 ghost use Rattle.bus.specs.Model.{Model};
 ghost use Rattle.cpu.specs.Effects.{effect, loads, stores, probe};
 ghost use Rattle.cpu.specs.Memory.{settled};
-ghost use Rattle.core465.specs.Machine.{machine_of};
 ghost use Rattle.core465.specs.Reaching.{seen, reach};
 ghost use Rattle.step.specs.Plans.{aligned, fetching, access_of, goes, leaves, permits, carries};
 ghost use Rattle.step.specs.Steps.{state_of, outcome, enacted, stepped};
@@ -41,7 +40,7 @@ fn access_of(access: DataAccess) -> Access
 
 /// The real address of the word at the counter, or the interrupt.
 fn find_instruction(core: &Core) -> Result<u64, Cause>
-    ensures { result ≡ fetching (reach (machine_of core.now) Access.Fetch (machine_of core.now).working.pc) }
+    ensures { result ≡ fetching (reach core.now Access.Fetch core.now.working.pc) }
 {
     match core.translate(Access::Fetch, core.counter()) {
         Translation::Miss => Err(Cause::InstructionTlbError),
@@ -52,7 +51,7 @@ fn find_instruction(core: &Core) -> Result<u64, Cause>
 
 /// The real address of a load or a store, or the interrupt.
 fn find_data(core: &Core, access: DataAccess, width: u32) -> Result<u64, Cause>
-    ensures { result ≡ goes (reach (machine_of core.now)) access width }
+    ensures { result ≡ goes (reach core.now) access width }
 {
     match core.translate(access_of(access), access.effective) {
         Translation::Miss => Err(Cause::DataTlbError(access)),
@@ -89,7 +88,7 @@ fn interrupt(core: &mut Core, cause: Cause) -> Answer
 
 /// Makes a load.
 fn load<B: Bus>(core: &mut Core, bus: &B, loading: Loading) -> Answer
-    ensures { outcome result core.new (B.Bus.model bus.now) ≡ enacted (state_of core.old (B.Bus.model bus.now)) (carries (seen (machine_of core.old)) (reach (machine_of core.old)) (B.Bus.model bus.now) (loads loading (machine_of core.old).working)) }
+    ensures { outcome result core.new (B.Bus.model bus.now) ≡ enacted (state_of core.old (B.Bus.model bus.now)) (carries (seen core.old) (reach core.old) (B.Bus.model bus.now) (loads loading core.old.working)) }
 {
     let access = DataAccess {
         effective: loading.address,
@@ -110,7 +109,7 @@ fn load<B: Bus>(core: &mut Core, bus: &B, loading: Loading) -> Answer
 
 /// Makes a store.
 fn store<B: Bus>(core: &mut Core, bus: &mut B, storing: Storing) -> Answer
-    ensures { outcome result core.new (B.Bus.model bus.new) ≡ enacted (state_of core.old (B.Bus.model bus.old)) (carries (seen (machine_of core.old)) (reach (machine_of core.old)) (B.Bus.model bus.old) (stores storing (machine_of core.old).working)) }
+    ensures { outcome result core.new (B.Bus.model bus.new) ≡ enacted (state_of core.old (B.Bus.model bus.old)) (carries (seen core.old) (reach core.old) (B.Bus.model bus.old) (stores storing core.old.working)) }
 {
     let access = DataAccess {
         effective: storing.address,
@@ -135,7 +134,7 @@ fn store<B: Bus>(core: &mut Core, bus: &mut B, storing: Storing) -> Answer
 
 /// A conditional store without a reservation: a store's match, right and alignment, and no bus.
 fn try_store(core: &mut Core, address: u32) -> Answer
-    ensures { (m : Model) → outcome result core.new m ≡ enacted (state_of core.old m) (carries (seen (machine_of core.old)) (reach (machine_of core.old)) m (probe address 4 (settled false (machine_of core.old).working))) }
+    ensures { (m : Model) → outcome result core.new m ≡ enacted (state_of core.old m) (carries (seen core.old) (reach core.old) m (probe address 4 (settled false core.old.working))) }
 {
     let access = DataAccess {
         effective: address,
@@ -152,7 +151,7 @@ fn try_store(core: &mut Core, address: u32) -> Answer
 
 /// A privileged deed, which user state may not do.
 fn carry_out(core: &mut Core, deed: Privileged) -> Answer
-    ensures { (m : Model) → outcome result core.new m ≡ enacted (state_of core.old m) (permits (seen (machine_of core.old)) deed) }
+    ensures { (m : Model) → outcome result core.new m ≡ enacted (state_of core.old m) (permits (seen core.old) deed) }
 {
     if core.user() {
         return interrupt(core, Cause::Program(ProgramFault::Privileged));
@@ -166,7 +165,7 @@ fn carry_out(core: &mut Core, deed: Privileged) -> Answer
 
 /// Carries out an instruction.
 fn execute<B: Bus>(core: &mut Core, bus: &mut B, instruction: Instruction) -> Answer
-    ensures { outcome result core.new (B.Bus.model bus.new) ≡ enacted (state_of core.old (B.Bus.model bus.old)) (carries (seen (machine_of core.old)) (reach (machine_of core.old)) (B.Bus.model bus.old) (effect instruction (seen (machine_of core.old)))) }
+    ensures { outcome result core.new (B.Bus.model bus.new) ≡ enacted (state_of core.old (B.Bus.model bus.old)) (carries (seen core.old) (reach core.old) (B.Bus.model bus.old) (effect instruction (seen core.old))) }
 {
     match core.perform(instruction) {
         Deed::Finished => Answer::Done(None),

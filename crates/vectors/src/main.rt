@@ -2,7 +2,7 @@
 #![tactic(auto)]
 
 use isa::decode;
-use pages::{Access, Entry, Pages, Translation, VirtualAddress};
+use pages::{Access, Entry, PageFault, Pages, Right, VirtualAddress};
 use std::io;
 use word::shift::leading_zeros;
 
@@ -20,15 +20,17 @@ fn table() -> Pages {
 }
 
 /// What a load from an address gets in user state.
-fn load(pages: &Pages, effective: u32) -> Translation {
+fn load(pages: &Pages, effective: u32) -> Result<u64, PageFault> {
     pages.translate(
         VirtualAddress {
             space: false,
             pid: 1,
             effective,
         },
-        true,
-        Access::Load,
+        Right {
+            user: true,
+            access: Access::Load,
+        },
     )
 }
 
@@ -42,8 +44,8 @@ fn main(rt: HostRuntime) -> io::Result<()> {
     println!(rt; "0x44000000: {word}")?;
     let pages = table();
     match load(&pages, 0x0020_0000) {
-        Translation::Miss => println!(rt; "0x00200000: miss"),
-        Translation::Denied => println!(rt; "0x00200000: denied"),
-        Translation::Real(address) => println!(rt; "0x00200000: 0x{address:09X}"),
+        Ok(address) => println!(rt; "0x00200000: 0x{address:09X}"),
+        Err(PageFault::Miss) => println!(rt; "0x00200000: miss"),
+        Err(PageFault::Denied) => println!(rt; "0x00200000: denied"),
     }
 }

@@ -2,6 +2,6 @@ use Rattle.std.proofs.Common.{rules}
 use Rattle.core465.specs.Interrupting.{interrupted}
 use Rattle.core465.proofs.machine.Core.interrupt.Goals as goal
 
-pub returns : goal.returns
+pub returns-clause-after : goal.returns-clause-after
 unfolding interrupted
-returns c = record { answer = c.taken.ensures; after = search rules }
+returns-clause-after c = rw (← c.self.view_is) (search rules)

@@ -1,15 +1,17 @@
-use Rattle.std.proofs.Common.{refl}
-use Rattle.core465.specs.Machine.{new_machine}
-use Rattle.core465.proofs.Entries.{each_kept}
-use Rattle.core465.proofs.Vectors.{zeros_kept}
+use Rattle.std.proofs.Common.{sym, subst}
+use Rattle.core465.specs.Machine.{MachineKept, new_machine}
+use Rattle.core465.proofs.Fresh.{new_kept, zero_working, zero_shown, zero_hidden}
 use Rattle.core465.proofs.machine.Core.new.Goals as goal
-
-pub invariant_of-result-clause-vectors_kept : goal.invariant_of-result-clause-vectors_kept
-invariant_of-result-clause-vectors_kept c = (refl, zeros_kept 16)
-
-pub invariant_of-result-clause-entries_kept : goal.invariant_of-result-clause-entries_kept
-invariant_of-result-clause-entries_kept c = each_kept c.empty.result.entries c.empty.ensures.kept
 
 pub returns : goal.returns
 unfolding new_machine
-returns c = simp c.empty.ensures.value
+returns c =
+    simp (
+      zero_working c.default.result c.default.ensures,
+      zero_shown c.default-2.result c.default-2.ensures,
+      zero_hidden c.default-3.result c.default-3.ensures,
+      c.empty.ensures.value,
+    )
+
+pub invariant_of-result : goal.invariant_of-result
+invariant_of-result c = subst MachineKept (sym (returns c)) new_kept
