@@ -8,7 +8,7 @@ use crate::deed::Deed;
 use crate::registers::Working;
 use isa::instruction::{Branch, BranchConditional, BranchRegister, BranchTarget};
 use word::condition;
-use word::sign::{extend_26, extend_half};
+use word::sign::extend;
 
 impl Working {
     /// The next instruction's address.
@@ -42,7 +42,7 @@ impl Working {
     pub(crate) fn branch(&mut self, i: Branch) -> Deed
         ensures { Finishes result self.new (branch i self.old) }
     {
-        let target = self.aim(i.absolute, extend_26(i.displacement.wrapping_mul(4)));
+        let target = self.aim(i.absolute, extend::<26>(i.displacement.wrapping_mul(4)));
         self.link(i.link);
         self.pc = target;
         Deed::Finished
@@ -89,7 +89,7 @@ impl Working {
     pub(crate) fn branch_conditional(&mut self, i: BranchConditional) -> Deed
         ensures { Finishes result self.new (branch_conditional i self.old) }
     {
-        let target = self.aim(i.absolute, extend_half(i.displacement.wrapping_mul(4)));
+        let target = self.aim(i.absolute, extend::<16>(i.displacement.wrapping_mul(4)));
         self.resolve(i.options, i.bit, i.link, target)
     }
 

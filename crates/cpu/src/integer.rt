@@ -16,7 +16,7 @@ use isa::instruction::{
     RotateOp, Select, ShiftRightImmediate,
 };
 use word::arithmetic::Outcome;
-use word::sign::extend_half;
+use word::sign::extend;
 use word::{condition, shift};
 
 impl Xer {
@@ -279,7 +279,7 @@ fn comparand(comparison: Comparison, immediate: u32) -> u32
     ensures { result ≡ comparand comparison immediate }
 {
     match comparison {
-        Comparison::Signed => extend_half(immediate),
+        Comparison::Signed => extend::<16>(immediate),
         Comparison::Unsigned => immediate % 0x1_0000,
     }
 }

@@ -10,7 +10,7 @@ use isa::instruction::{
     StoreIndexed, StoreIndexedOp, StoreOp,
 };
 use word::condition;
-use word::sign::{extend_half, reverse, reverse_half};
+use word::sign::{extend, reverse, reverse_half};
 
 /// The register that an update form gives the address.
 fn updating(update: bool, ra: Register) -> Option<Register>
@@ -121,7 +121,7 @@ impl Conversion {
     {
         match self {
             Conversion::Plain => x,
-            Conversion::SignedHalf => extend_half(x),
+            Conversion::SignedHalf => extend::<16>(x),
             Conversion::ReversedHalf => reverse_half(x),
             Conversion::ReversedWord => reverse(x),
         }
@@ -134,7 +134,7 @@ impl Working {
         ensures { result ≡ offset_of self.now offset }
     {
         match offset {
-            Offset::Displacement(d) => extend_half(d),
+            Offset::Displacement(d) => extend::<16>(d),
             Offset::Index(rb) => self.word(rb),
         }
     }

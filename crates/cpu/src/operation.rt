@@ -12,7 +12,7 @@ use word::product::{
     divide, divide_signed, multiply, multiply_high, multiply_high_signed, multiply_overflows,
 };
 use word::shift::{leading_zeros, shift_algebraic, shift_left, shift_right};
-use word::sign::{extend_byte, extend_half, invert};
+use word::sign::{extend, invert};
 
 /// An outcome that leaves the carry as it was.
 fn keeping(outcome: Outcome, carry: bool) -> Outcome
@@ -54,7 +54,7 @@ fn quotient(value: Option<u32>, carry: bool) -> Outcome
 pub fn immediate_outcome(op: ImmediateOp, a: u32, immediate: u32, carry: bool) -> Outcome
     ensures { result ≡ immediate_outcome op a immediate carry }
 {
-    let signed = extend_half(immediate);
+    let signed = extend::<16>(immediate);
     match op {
         ImmediateOp::Addi => plain(a.wrapping_add(signed), carry),
         ImmediateOp::Addis => plain(a.wrapping_add(immediate % 0x1_0000 * 0x1_0000), carry),
@@ -133,8 +133,8 @@ pub fn logical_unary_value(op: LogicalUnaryOp, s: u32) -> u32
     ensures { result ≡ logical_unary_value op s }
 {
     match op {
-        LogicalUnaryOp::Extsb => extend_byte(s),
-        LogicalUnaryOp::Extsh => extend_half(s),
+        LogicalUnaryOp::Extsb => extend::<8>(s),
+        LogicalUnaryOp::Extsh => extend::<16>(s),
         LogicalUnaryOp::Cntlzw => leading_zeros(s),
     }
 }

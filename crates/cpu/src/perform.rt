@@ -5,13 +5,13 @@ ghost use Rattle.cpu.specs.Effects.{seen_of, effected, effect, effect_of, tlb_se
 
 use crate::deed::{Deed, Privileged};
 use crate::registers::{Shown, Working};
-use crate::special::privileged_number;
+use crate::special::{NoSuchRegister, privileged_number};
 use isa::instruction::{
     BareOp, Instruction, Move, MoveOp, MoveSpecial, Offset, SpecialOp, StoreConditional, TlbSearch,
     TlbWord, TlbWordOp,
 };
 use word::condition;
-use word::sign::extend_half;
+use word::sign::extend;
 
 impl Working {
     /// A trap, or the next instruction.
@@ -91,10 +91,9 @@ impl Working {
         if privileged_number(number) {
             return Deed::Privileged(Privileged::WriteSpecial { number, value });
         }
-        if self.set_special(number, value) {
-            self.proceed()
-        } else {
-            Deed::Illegal
+        match self.set_special(number, value) {
+            Ok(()) => self.proceed(),
+            Err(NoSuchRegister) => Deed::Illegal,
         }
     }
 
@@ -152,7 +151,7 @@ impl Working {
                 self.trap_if(condition::traps(
                     i.conditions,
                     self.word(i.ra),
-                    extend_half(i.immediate),
+                    extend::<16>(i.immediate),
                 ))
             }
             Instruction::Load(i) => Deed::Load(self.loading(i)),

@@ -5,6 +5,20 @@ ghost use Rattle.cpu.specs.Specials.{privileged_number, special_word, with_speci
 ghost use Rattle.cpu.specs.Known.{Known};
 
 use crate::registers::{Msr, Shown, Working, Xer};
+use std::error::Error;
+use std::fmt;
+
+/// A number that names no register.
+#[derive(Clone, Copy, PartialEq, Eq, Debug)]
+pub struct NoSuchRegister;
+
+impl fmt::Display for NoSuchRegister {
+    fn fmt<W: fmt::Write>(&self, f: &mut fmt::Formatter<W>) -> fmt::Result {
+        write!(f, "no register of this number")
+    }
+}
+
+impl Error for NoSuchRegister {}
 
 impl Xer {
     /// XER as a word.
@@ -82,8 +96,8 @@ impl Working {
         }
     }
 
-    /// A word to a special purpose register that both states can write; whether there is one of that number.
-    pub fn set_special(&mut self, number: u32, value: u32) -> bool
+    /// A word to a special purpose register that both states can write, where there is one of that number.
+    pub fn set_special(&mut self, number: u32, value: u32) -> Result<(), NoSuchRegister>
         ensures { Known result self.old self.new (with_special number value self.old) }
     {
         match number {
@@ -91,8 +105,8 @@ impl Working {
             8 => self.lr = value,
             9 => self.ctr = value,
             256 => self.usprg0 = value,
-            _ => return false,
+            _ => return Err(NoSuchRegister),
         }
-        true
+        Ok(())
     }
 }

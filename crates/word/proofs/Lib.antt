@@ -1,4 +1,5 @@
 pub mod Exact
+pub mod Extensions
 pub mod Masks
 pub mod Products
 pub mod Quotients

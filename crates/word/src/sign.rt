@@ -1,5 +1,5 @@
 //! Words as signed numbers, and narrow fields extended by their sign.
-ghost use Rattle.std.specs.Prelude.{◌≡◌, ℕ, ◌%◌, ◌^◌, ◌<◌};
+ghost use Rattle.std.specs.Prelude.{◌≡◌, ℕ, ◌%◌, ◌^◌, ◌<◌, ◌≤◌};
 ghost use Rattle.word.specs.Words.{negative, biased, inverted, extended, reversed, reversed_half};
 
 /// Whether a word's sign bit, bit 0, is set.
@@ -23,32 +23,14 @@ pub fn invert(x: u32) -> u32
     0xFFFF_FFFF - x
 }
 
-/// The low byte, extended by its sign.
-pub fn extend_byte(x: u32) -> u32
-    ensures { result ≡ extended 8 (x % 2 ^ 8) }
+/// The low bits of a word, as many as `BITS`, extended by their sign.
+pub fn extend<const BITS: u32>(x: u32) -> u32
+    requires some { 0 < BITS }
+    requires fits { BITS ≤ 32 }
+    ensures { result ≡ extended BITS (x % 2 ^ BITS) }
 {
-    let low = x % 0x100;
-    if low < 0x80 { low } else { low + 0xFFFF_FF00 }
-}
-
-/// The low halfword, extended by its sign.
-pub fn extend_half(x: u32) -> u32
-    ensures { result ≡ extended 16 (x % 2 ^ 16) }
-{
-    let low = x % 0x1_0000;
-    if low < 0x8000 { low } else { low + 0xFFFF_0000 }
-}
-
-/// The low 26 bits, extended by their sign.
-pub fn extend_26(x: u32) -> u32
-    ensures { result ≡ extended 26 (x % 2 ^ 26) }
-{
-    let low = x % 0x400_0000;
-    if low < 0x200_0000 {
-        low
-    } else {
-        low + 0xFC00_0000
-    }
+    let spare = 32 - BITS;
+    ((x << spare).cast_signed() >> spare).cast_unsigned()
 }
 
 /// The four bytes in the other order.
