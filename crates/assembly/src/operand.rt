@@ -1,6 +1,9 @@
 //! The operands of instructions.
+ghost use Rattle.std.specs.Prelude.{◌<◌, ◌≤◌};
+
 use isa::instruction::*;
 use std::fmt;
+use word::sign::extend;
 
 /// An operand. A number with a sign, an address and a distance are words of 32 bits.
 #[derive(Clone, Copy)]
@@ -63,23 +66,17 @@ fn signed<W: fmt::Write>(f: &mut fmt::Formatter<W>, plus: &str, number: u32) -> 
     }
 }
 
-/// A field with its sign extended to 32 bits; the field's sign bit counts for `half`.
-fn extended(field: u32, half: u32) -> u32 {
-    if field < half {
-        field
-    } else {
-        field.wrapping_sub(half).wrapping_sub(half)
-    }
-}
-
 /// A field of 16 bits as a number with a sign.
 fn immediate(field: u32) -> Operand {
-    Signed(extended(field, 0x8000))
+    Signed(extend::<16>(field))
 }
 
-/// The target of a branch, from a field that counts words and whose sign bit counts for `half`.
-fn target(displacement: u32, half: u32, absolute: bool) -> Operand {
-    let bytes = extended(displacement, half).wrapping_mul(4);
+/// The target of a branch, from a field of `BITS` bits that counts words.
+fn target<const BITS: u32>(displacement: u32, absolute: bool) -> Operand
+    requires some { 0 < BITS }
+    requires fits { BITS ≤ 32 }
+{
+    let bytes = extend::<BITS>(displacement).wrapping_mul(4);
     if absolute {
         Address(bytes)
     } else {
@@ -105,7 +102,7 @@ fn access<W: fmt::Write>(
     offset: Offset,
 ) -> fmt::Result {
     match offset {
-        Offset::Displacement(d) => list(f, &[Gpr(register), Memory(extended(d, 0x8000), base)]),
+        Offset::Displacement(d) => list(f, &[Gpr(register), Memory(extend::<16>(d), base)]),
         Offset::Index(rb) => list(f, &indexed(register, base, rb)),
     }
 }
@@ -140,7 +137,7 @@ fn trapped(i: TrapImmediate) -> [Operand; 3] {
 
 /// The operands of a conditional branch.
 fn conditional(i: BranchConditional) -> [Operand; 3] {
-    let target = target(i.displacement, 0x2000, i.absolute);
+    let target = target::<14>(i.displacement, i.absolute);
     [Number(i.options), Number(i.bit), target]
 }
 
@@ -175,7 +172,7 @@ pub fn operands<W: fmt::Write>(f: &mut fmt::Formatter<W>, instruction: Instructi
         Instruction::TrapImmediate(i) => list(f, &trapped(i)),
         Instruction::Load(i) => access(f, i.rt, i.ra, i.offset),
         Instruction::Store(i) => access(f, i.rs, i.ra, i.offset),
-        Instruction::Branch(i) => list(f, &[target(i.displacement, 0x80_0000, i.absolute)]),
+        Instruction::Branch(i) => list(f, &[target::<24>(i.displacement, i.absolute)]),
         Instruction::BranchConditional(i) => list(f, &conditional(i)),
         Instruction::BranchRegister(i) => list(f, &[Number(i.options), Number(i.bit)]),
         Instruction::SystemCall => Ok(()),
