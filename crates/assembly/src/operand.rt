@@ -5,7 +5,7 @@ use isa::instruction::*;
 use std::fmt;
 use word::sign::extend;
 
-/// An operand. A number with a sign, an address and a distance are words of 32 bits.
+/// An operand.
 #[derive(Clone, Copy)]
 pub enum Operand {
     /// A general register.
@@ -15,13 +15,13 @@ pub enum Operand {
     /// A number without a sign.
     Number(u32),
     /// A number with a sign.
-    Signed(u32),
+    Signed(i32),
     /// A displacement with a sign, and the base that it is added to.
-    Memory(u32, u32),
+    Memory(i32, u32),
     /// The address that a branch goes to.
     Address(u32),
     /// The distance in bytes, with a sign, from a branch to its target.
-    Distance(u32),
+    Distance(i32),
 }
 
 use Operand::{Address, Base, Distance, Gpr, Memory, Number, Signed};
@@ -32,18 +32,14 @@ impl fmt::Display for Operand {
             Gpr(number) => write!(f, "r{number}"),
             Base(number) => base(f, number),
             Number(number) => write!(f, "{number}"),
-            Signed(number) => signed(f, "", number),
+            Signed(number) => write!(f, "{number}"),
             Memory(displacement, number) => {
-                signed(f, "", displacement)?;
-                write!(f, "(")?;
+                write!(f, "{displacement}(")?;
                 base(f, number)?;
                 write!(f, ")")
             }
             Address(address) => write!(f, "0x{address:08X}"),
-            Distance(distance) => {
-                write!(f, ".")?;
-                signed(f, "+", distance)
-            }
+            Distance(distance) => write!(f, ".{distance:+}"),
         }
     }
 }
@@ -57,18 +53,14 @@ fn base<W: fmt::Write>(f: &mut fmt::Formatter<W>, number: u32) -> fmt::Result {
     }
 }
 
-/// Writes a word of 32 bits as a number with a sign, which is `plus` where it is not negative.
-fn signed<W: fmt::Write>(f: &mut fmt::Formatter<W>, plus: &str, number: u32) -> fmt::Result {
-    if number < 0x8000_0000 {
-        write!(f, "{plus}{number}")
-    } else {
-        write!(f, "-{}", number.wrapping_neg())
-    }
+/// A field of 16 bits with its sign.
+fn short(field: u32) -> i32 {
+    extend::<16>(field).cast_signed()
 }
 
 /// A field of 16 bits as a number with a sign.
 fn immediate(field: u32) -> Operand {
-    Signed(extend::<16>(field))
+    Signed(short(field))
 }
 
 /// The target of a branch, from a field of `BITS` bits that counts words.
@@ -80,7 +72,7 @@ fn target<const BITS: u32>(displacement: u32, absolute: bool) -> Operand
     if absolute {
         Address(bytes)
     } else {
-        Distance(bytes)
+        Distance(bytes.cast_signed())
     }
 }
 
@@ -102,7 +94,7 @@ fn access<W: fmt::Write>(
     offset: Offset,
 ) -> fmt::Result {
     match offset {
-        Offset::Displacement(d) => list(f, &[Gpr(register), Memory(extend::<16>(d), base)]),
+        Offset::Displacement(d) => list(f, &[Gpr(register), Memory(short(d), base)]),
         Offset::Index(rb) => list(f, &indexed(register, base, rb)),
     }
 }
