@@ -7,7 +7,7 @@ unfolding effect
 returns c =
     let e = c.perform_format.ensures in
     record {
-      same = e.same;
-      waits = e.waits;
-      kept = λ h. deed_kept c.perform_format.result _ _ _ e.same e.waits (kept c.args.instruction c.args.self.now c.args.shown.now h) h;
+      same = e.0;
+      waits = e.1;
+      kept = λ h. deed_kept c.perform_format.result _ _ _ e.0 e.1 (kept c.args.instruction c.args.self.now c.args.shown.now h) h;
     }
