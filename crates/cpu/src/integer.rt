@@ -80,6 +80,7 @@ impl Working {
     }
 
     /// An outcome to its register, to XER and, with Rc, to condition field 0.
+    #[tactic(auto, unfolding(crate::specs::Integer::completed))]
     fn complete(&mut self, target: Register, outcome: Outcome, oe: bool, rc: bool)
         ensures { self.new ≡ completed target outcome oe rc self.old }
     {

@@ -297,7 +297,9 @@ impl Working {
         }
     }
 
+    // `Kept` stands in the clauses and not in the type: anyone may build `Working`, with any counter.
     /// A load's end, once its value is there.
+    #[tactic(auto, unfolding(crate::specs::Memory::received))]
     pub fn receive(&mut self, loading: Loading, value: u32)
         ensures after { self.new ≡ received loading value self.old }
         ensures kept { Kept self.old → Kept self.new }
@@ -309,6 +311,7 @@ impl Working {
     }
 
     /// A conditional store's end: whether it stored.
+    #[tactic(auto, unfolding(crate::specs::Memory::settled))]
     pub fn settle(&mut self, stored: bool)
         ensures after { self.new ≡ settled stored self.old }
         ensures kept { Kept self.old → Kept self.new }
@@ -320,6 +323,7 @@ impl Working {
     }
 
     /// A store's end, once it is made.
+    #[tactic(auto, unfolding(crate::specs::Memory::stored))]
     pub fn conclude(&mut self, storing: Storing)
         ensures after { self.new ≡ stored storing self.old }
         ensures kept { Kept self.old → Kept self.new }
