@@ -20,6 +20,7 @@ pub fn multiply_high(a: u32, b: u32) -> u32
 }
 
 /// The high word of a product of signed words.
+#[tactic(auto, using(crate::proofs::Products::product_exact))]
 pub fn multiply_high_signed(a: u32, b: u32) -> u32
     ensures is { result ≡ product_high_signed a b }
     ensures exact { ProductExact }
@@ -32,6 +33,7 @@ pub fn multiply_high_signed(a: u32, b: u32) -> u32
 }
 
 /// Whether a product of signed words does not fit a word.
+#[tactic(auto, using(crate::proofs::Products::overflow_exact))]
 pub fn multiply_overflows(a: u32, b: u32) -> bool
     ensures is { result ≡ product_overflows a b }
     ensures exact { OverflowExact }
@@ -52,6 +54,7 @@ pub fn divide(a: u32, b: u32) -> Option<u32>
 }
 
 /// The quotient of signed words, rounded toward zero; none for a divisor of zero, and for the least word by -1.
+#[tactic(auto, using(crate::proofs::Quotients::quotient_exact))]
 pub fn divide_signed(a: u32, b: u32) -> Option<u32>
     ensures is { result ≡ quotient_signed a b }
     ensures exact { QuotientExact }

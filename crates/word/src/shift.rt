@@ -7,6 +7,7 @@ use crate::arithmetic::Outcome;
 use crate::sign::is_negative;
 
 /// A word rotated left, by the low five bits of an amount.
+#[tactic(auto, using(crate::proofs::Rotations::rotated_by_shifts), unfolding(crate::specs::Shifts::rotated))]
 pub fn rotate(x: u32, amount: u32) -> u32
     ensures { result ≡ rotated x amount }
 {
@@ -14,6 +15,7 @@ pub fn rotate(x: u32, amount: u32) -> u32
 }
 
 /// Ones from one bit to another, round the end where the first is the greater; bits by their low five bits.
+#[tactic(auto, using(crate::proofs::Masks::mask_in_order, crate::proofs::Masks::mask_round_the_end), unfolding(crate::specs::Shifts::mask))]
 pub fn mask_between(begin: u32, end: u32) -> u32
     ensures { result ≡ mask begin end }
 {

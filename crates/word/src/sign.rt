@@ -24,6 +24,7 @@ pub fn invert(x: u32) -> u32
 }
 
 /// The low bits of a word, as many as `BITS`, extended by their sign.
+#[tactic(auto, using(crate::proofs::Extensions::extended_by_shifts))]
 pub fn extend<const BITS: u32>(x: u32) -> u32
     requires some { 0 < BITS }
     requires fits { BITS ≤ 32 }
