@@ -4,6 +4,7 @@ use Rattle.std.specs.Prelude.{int_div, int_rem, MatchOption, IsSomeAnd}
 use Rattle.std.specs.Option.{SomeIff}
 use Rattle.std.proofs.lemmas.Int.{ints, quot-rem, rem_below, of_z-to_z}
 use Rattle.std.proofs.lemmas.Bool.Decides.{nat_tests}
+use Rattle.std.proofs.lemmas.Option.{none-some}
 use Rattle.word.specs.Words.{wrap, negative}
 use Rattle.word.specs.Exact.{signed}
 use Rattle.word.specs.Products.{magnitude, quotient_signed}
@@ -57,15 +58,6 @@ quotient_parts a b = by (negative a) (negative b) refl refl
     by true false ex ey = simp (ex, ey)
     by false true ex ey = simp (ex, ey)
     by false false ex ey = simp (ex, ey)
-
--- what a test leaves of a quotient
-some_of : (t : Bool) (v q : ℕ) → cond t None (Some v) ≡ Some q → (t ≡ false) × (v ≡ q)
-some_of true v q e = absurd (let z : ◌≡◌ {A = ℕ} 0 1 = cc in omega arith)
-some_of false v q e = (refl, cc)
-
-none_of : (t : Bool) (v : ℕ) → ◌≡◌ {A = Option ℕ} (cond t None (Some v)) None → t ≡ true
-none_of true v e = refl
-none_of false v e = absurd (let z : ◌≡◌ {A = ℕ} 0 1 = cc in omega arith)
 
 -- a size by a size fits, but for 2^31 by 1
 fits : (m n : ℕ) → m < 2 ^ 31 → (n ≡ 0 → m + 1 < 2 ^ 31) → suc m / suc n < 2 ^ 31
@@ -154,10 +146,16 @@ none_exact a b q hq t h = by (undefined_cases a b t)
     by (inr z) = no_least q h.rest hq (simp z.1 at h.small) (simp (z.0, z.1) at h.whole)
 
 pub quotient_exact : QuotientExact
-quotient_exact a b ha hb = (λ q e. found q (some_of (undefined a b) (value a b) q (sym (quotient_parts a b) ∙ e)), λ e q hq. none_exact a b q hq (none_of (undefined a b) (value a b) (sym (quotient_parts a b) ∙ e)))
+quotient_exact a b ha hb = by (undefined a b) refl
   where
-    found : (q : ℕ) → (undefined a b ≡ false) × (value a b ≡ q) → Quotient (signed a) (signed b) (signed q)
-    found q e = let h = defined_exact a b ha hb e.0 in simp e.1 at h
+    by : (t : Bool) → undefined a b ≡ t → ((q : ℕ) → quotient_signed a b ≡ Some q → Quotient (signed a) (signed b) (signed q)) × (quotient_signed a b ≡ None → (q : ℕ) → q < 2 ^ 32 → Quotient (signed a) (signed b) (signed q) → ⊥)
+    by true t =
+        let p : quotient_signed a b ≡ None = quotient_parts a b ∙ ap (λ (u : Bool). cond u None (Some (value a b))) t in
+        (λ q e. absurd (none-some q (sym p ∙ e)), λ e q hq. none_exact a b q hq t)
+    by false t =
+        let p : quotient_signed a b ≡ Some (value a b) = quotient_parts a b ∙ ap (λ (u : Bool). cond u None (Some (value a b))) t in
+        let h = defined_exact a b ha hb t in
+        (λ q e. let s : Some (value a b) ≡ Some q = sym p ∙ e in let v : value a b ≡ q = cc in simp v at h, λ e. absurd (none-some (value a b) (sym e ∙ p)))
 
 -- the machine divides exactly where there is a quotient, and gives its word
 abbrev CanDivide : ℕ → ℕ → Type 0

@@ -54,7 +54,7 @@ pub fn divide(a: u32, b: u32) -> Option<u32>
 }
 
 /// The quotient of signed words, rounded toward zero; none for a divisor of zero, and for the least word by -1.
-#[tactic(auto, using(crate::proofs::Quotients::quotient_exact))]
+#[tactic(auto, using(crate::proofs::Quotients::quotient_exact, crate::proofs::Quotients::divided))]
 pub fn divide_signed(a: u32, b: u32) -> Option<u32>
     ensures is { result ≡ quotient_signed a b }
     ensures exact { QuotientExact }
