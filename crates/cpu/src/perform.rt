@@ -185,6 +185,7 @@ impl Working {
     }
 
     /// The register part of an instruction: it is done, or what is left to do is told and no register is altered yet.
+    #[tactic(auto, using(crate::proofs::Kept::kept, crate::proofs::Kept::deed_kept), unfolding(crate::specs::Effects::effect))]
     pub fn perform(&mut self, shown: &Shown, instruction: Instruction) -> Deed
         ensures same { effect_of result self.new ≡ effect instruction (seen_of self.old shown.now) }
         ensures waits { Waits result self.old self.new }
