@@ -2,7 +2,7 @@
 use isa::instruction::Register;
 
 /// How a loaded value becomes a register's word.
-#[derive(Clone, Copy)]
+#[derive(Clone, Copy, PartialEq, Eq, Debug)]
 pub enum Conversion {
     Plain,
     SignedHalf,
@@ -11,7 +11,7 @@ pub enum Conversion {
 }
 
 /// A load to make: its effective address and width, and what its value is for.
-#[derive(Clone, Copy)]
+#[derive(Clone, Copy, PartialEq, Eq, Debug)]
 pub struct Loading {
     pub address: u32,
     pub width: u32,
@@ -24,7 +24,7 @@ pub struct Loading {
 }
 
 /// A store to make: its effective address, width and value.
-#[derive(Clone, Copy)]
+#[derive(Clone, Copy, PartialEq, Eq, Debug)]
 pub struct Storing {
     pub address: u32,
     pub width: u32,
@@ -36,7 +36,7 @@ pub struct Storing {
 }
 
 /// A privileged deed, with the values that it takes from the working registers.
-#[derive(Clone, Copy)]
+#[derive(Clone, Copy, PartialEq, Eq, Debug)]
 pub enum Privileged {
     /// mfmsr.
     ReadMsr {
@@ -62,6 +62,7 @@ pub enum Privileged {
         number: u32,
         value: u32,
     },
+    // The number of a word is any: the core that carries the deed out refuses the numbers that name none.
     /// tlbre.
     ReadEntry {
         rt: Register,
@@ -85,7 +86,7 @@ pub enum Privileged {
 }
 
 /// What is left to do.
-#[derive(Clone, Copy)]
+#[derive(Clone, Copy, PartialEq, Eq, Debug)]
 pub enum Deed {
     /// Nothing: the registers are as the instruction leaves them.
     Finished,

@@ -1,7 +1,7 @@
 //! The registers, by what user state may do with them.
 
 /// XER: summary overflow, overflow, carry, and a count of seven bits.
-#[derive(Clone, Copy)]
+#[derive(Clone, Copy, PartialEq, Eq, Debug, Default)]
 pub struct Xer {
     pub so: bool,
     pub ov: bool,
@@ -10,7 +10,7 @@ pub struct Xer {
 }
 
 /// What user state may alter: general registers, CR, XER, LR, CTR, USPRG0, the program counter and the reservation.
-#[derive(Clone, Copy)]
+#[derive(Clone, Copy, PartialEq, Eq, Debug, Default)]
 pub struct Working {
     pub gpr: [u32; 32],
     pub cr: u32,
@@ -24,7 +24,7 @@ pub struct Working {
 
 /// MSR: the enables of critical, external, machine check and debug interrupts, user state, and the address spaces of
 /// fetches and of data.
-#[derive(Clone, Copy)]
+#[derive(Clone, Copy, PartialEq, Eq, Debug, Default)]
 pub struct Msr {
     pub ce: bool,
     pub ee: bool,
@@ -36,7 +36,7 @@ pub struct Msr {
 }
 
 /// What user state sees and does not alter: MSR, SPRG4 to SPRG7 and the external line.
-#[derive(Clone, Copy)]
+#[derive(Clone, Copy, PartialEq, Eq, Debug, Default)]
 pub struct Shown {
     pub msr: Msr,
     pub sprg: [u32; 4],

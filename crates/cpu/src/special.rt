@@ -20,21 +20,22 @@ impl fmt::Display for NoSuchRegister {
 
 impl Error for NoSuchRegister {}
 
-impl Xer {
-    /// XER as a word.
-    pub fn word(self) -> u32
-        ensures { result ≡ xer_word self }
-    {
-        self.so as u32 * 0x8000_0000
-            + self.ov as u32 * 0x4000_0000
-            + self.ca as u32 * 0x2000_0000
-            + self.count % 128
-    }
+impl From<Xer> for u32 {
+    ghost from_gives = { λ xer word. word ≡ xer_word xer };
 
-    /// XER from a word, whose other bits are dropped.
-    pub fn from_word(word: u32) -> Xer
-        ensures { result ≡ xer_from word }
-    {
+    fn from(xer: Xer) -> u32 {
+        u32::from(xer.so) * 0x8000_0000
+            + u32::from(xer.ov) * 0x4000_0000
+            + u32::from(xer.ca) * 0x2000_0000
+            + xer.count % 128
+    }
+}
+
+/// XER from a word, whose other bits are dropped.
+impl From<u32> for Xer {
+    ghost from_gives = { λ word xer. xer ≡ xer_from word };
+
+    fn from(word: u32) -> Xer {
         Xer {
             so: word / 0x8000_0000 % 2 == 1,
             ov: word / 0x4000_0000 % 2 == 1,
@@ -44,24 +45,25 @@ impl Xer {
     }
 }
 
-impl Msr {
-    /// MSR as a word.
-    pub fn word(self) -> u32
-        ensures { result ≡ msr_word self }
-    {
-        self.ce as u32 * 0x2_0000
-            + self.ee as u32 * 0x8000
-            + self.pr as u32 * 0x4000
-            + self.me as u32 * 0x1000
-            + self.de as u32 * 0x200
-            + self.is as u32 * 0x20
-            + self.ds as u32 * 0x10
-    }
+impl From<Msr> for u32 {
+    ghost from_gives = { λ msr word. word ≡ msr_word msr };
 
-    /// MSR from a word, whose other bits are dropped.
-    pub fn from_word(word: u32) -> Msr
-        ensures { result ≡ msr_from word }
-    {
+    fn from(msr: Msr) -> u32 {
+        u32::from(msr.ce) * 0x2_0000
+            + u32::from(msr.ee) * 0x8000
+            + u32::from(msr.pr) * 0x4000
+            + u32::from(msr.me) * 0x1000
+            + u32::from(msr.de) * 0x200
+            + u32::from(msr.is) * 0x20
+            + u32::from(msr.ds) * 0x10
+    }
+}
+
+/// MSR from a word, whose other bits are dropped.
+impl From<u32> for Msr {
+    ghost from_gives = { λ word msr. msr ≡ msr_from word };
+
+    fn from(word: u32) -> Msr {
         Msr {
             ce: word / 0x2_0000 % 2 == 1,
             ee: word / 0x8000 % 2 == 1,
@@ -87,7 +89,7 @@ impl Working {
         ensures { result ≡ special_word number self.now shown.now }
     {
         match number {
-            1 => Some(self.xer.word()),
+            1 => Some(u32::from(self.xer)),
             8 => Some(self.lr),
             9 => Some(self.ctr),
             256 => Some(self.usprg0),
@@ -101,7 +103,7 @@ impl Working {
         ensures { Known result self.old self.new (with_special number value self.old) }
     {
         match number {
-            1 => self.xer = Xer::from_word(value),
+            1 => self.xer = Xer::from(value),
             8 => self.lr = value,
             9 => self.ctr = value,
             256 => self.usprg0 = value,

@@ -59,12 +59,12 @@ fn msr_and_xer_keep_their_bits(rt: HostRuntime) {
     for bit in 0u32..32 {
         let word = 1u32 << bit;
         let msr = matches!(bit, 4 | 5 | 9 | 12 | 14 | 15 | 17);
-        assert_eq!(rt; Msr::from_word(word).word(), if msr { word } else { 0 });
+        assert_eq!(rt; u32::from(Msr::from(word)), if msr { word } else { 0 });
         let xer = matches!(bit, 0..=6 | 29..=31);
-        assert_eq!(rt; Xer::from_word(word).word(), if xer { word } else { 0 });
+        assert_eq!(rt; u32::from(Xer::from(word)), if xer { word } else { 0 });
     }
-    assert!(rt; Msr::from_word(0x4000).pr);
-    assert!(rt; Xer::from_word(0x2000_0000).ca);
+    assert!(rt; Msr::from(0x4000).pr);
+    assert!(rt; Xer::from(0x2000_0000).ca);
 }
 
 /// A move of register 3 with the number of a special purpose register, whose halves change places in the word.
