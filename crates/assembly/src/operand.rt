@@ -1,8 +1,11 @@
 //! The operands of instructions.
+ghost use Rattle.std.specs.Prelude.{◌<◌, ◌≤◌};
+
 use isa::instruction::*;
 use std::fmt;
+use word::sign::extend;
 
-/// An operand. A number with a sign, an address and a distance are words of 32 bits.
+/// An operand.
 #[derive(Clone, Copy)]
 pub enum Operand {
     /// A general register.
@@ -12,13 +15,13 @@ pub enum Operand {
     /// A number without a sign.
     Number(u32),
     /// A number with a sign.
-    Signed(u32),
+    Signed(i32),
     /// A displacement with a sign, and the base that it is added to.
-    Memory(u32, u32),
+    Memory(i32, u32),
     /// The address that a branch goes to.
     Address(u32),
     /// The distance in bytes, with a sign, from a branch to its target.
-    Distance(u32),
+    Distance(i32),
 }
 
 use Operand::{Address, Base, Distance, Gpr, Memory, Number, Signed};
@@ -29,18 +32,14 @@ impl fmt::Display for Operand {
             Gpr(number) => write!(f, "r{number}"),
             Base(number) => base(f, number),
             Number(number) => write!(f, "{number}"),
-            Signed(number) => signed(f, "", number),
+            Signed(number) => write!(f, "{number}"),
             Memory(displacement, number) => {
-                signed(f, "", displacement)?;
-                write!(f, "(")?;
+                write!(f, "{displacement}(")?;
                 base(f, number)?;
                 write!(f, ")")
             }
             Address(address) => write!(f, "0x{address:08X}"),
-            Distance(distance) => {
-                write!(f, ".")?;
-                signed(f, "+", distance)
-            }
+            Distance(distance) => write!(f, ".{distance:+}"),
         }
     }
 }
@@ -54,36 +53,26 @@ fn base<W: fmt::Write>(f: &mut fmt::Formatter<W>, number: u32) -> fmt::Result {
     }
 }
 
-/// Writes a word of 32 bits as a number with a sign, which is `plus` where it is not negative.
-fn signed<W: fmt::Write>(f: &mut fmt::Formatter<W>, plus: &str, number: u32) -> fmt::Result {
-    if number < 0x8000_0000 {
-        write!(f, "{plus}{number}")
-    } else {
-        write!(f, "-{}", number.wrapping_neg())
-    }
-}
-
-/// A field with its sign extended to 32 bits; the field's sign bit counts for `half`.
-fn extended(field: u32, half: u32) -> u32 {
-    if field < half {
-        field
-    } else {
-        field.wrapping_sub(half).wrapping_sub(half)
-    }
+/// A field of 16 bits with its sign.
+fn short(field: u32) -> i32 {
+    extend::<16>(field).cast_signed()
 }
 
 /// A field of 16 bits as a number with a sign.
 fn immediate(field: u32) -> Operand {
-    Signed(extended(field, 0x8000))
+    Signed(short(field))
 }
 
-/// The target of a branch, from a field that counts words and whose sign bit counts for `half`.
-fn target(displacement: u32, half: u32, absolute: bool) -> Operand {
-    let bytes = extended(displacement, half).wrapping_mul(4);
+/// The target of a branch, from a field of `BITS` bits that counts words.
+fn target<const BITS: u32>(displacement: u32, absolute: bool) -> Operand
+    requires some { 0 < BITS }
+    requires fits { BITS ≤ 32 }
+{
+    let bytes = extend::<BITS>(displacement).wrapping_mul(4);
     if absolute {
         Address(bytes)
     } else {
-        Distance(bytes)
+        Distance(bytes.cast_signed())
     }
 }
 
@@ -105,7 +94,7 @@ fn access<W: fmt::Write>(
     offset: Offset,
 ) -> fmt::Result {
     match offset {
-        Offset::Displacement(d) => list(f, &[Gpr(register), Memory(extended(d, 0x8000), base)]),
+        Offset::Displacement(d) => list(f, &[Gpr(register), Memory(short(d), base)]),
         Offset::Index(rb) => list(f, &indexed(register, base, rb)),
     }
 }
@@ -140,7 +129,7 @@ fn trapped(i: TrapImmediate) -> [Operand; 3] {
 
 /// The operands of a conditional branch.
 fn conditional(i: BranchConditional) -> [Operand; 3] {
-    let target = target(i.displacement, 0x2000, i.absolute);
+    let target = target::<14>(i.displacement, i.absolute);
     [Number(i.options), Number(i.bit), target]
 }
 
@@ -175,7 +164,7 @@ pub fn operands<W: fmt::Write>(f: &mut fmt::Formatter<W>, instruction: Instructi
         Instruction::TrapImmediate(i) => list(f, &trapped(i)),
         Instruction::Load(i) => access(f, i.rt, i.ra, i.offset),
         Instruction::Store(i) => access(f, i.rs, i.ra, i.offset),
-        Instruction::Branch(i) => list(f, &[target(i.displacement, 0x80_0000, i.absolute)]),
+        Instruction::Branch(i) => list(f, &[target::<24>(i.displacement, i.absolute)]),
         Instruction::BranchConditional(i) => list(f, &conditional(i)),
         Instruction::BranchRegister(i) => list(f, &[Number(i.options), Number(i.bit)]),
         Instruction::SystemCall => Ok(()),

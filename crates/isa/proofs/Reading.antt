@@ -3,9 +3,9 @@ use Rattle.std.proofs.Common.{◌≡◌, ℕ, ◌+◌, ◌*◌, ◌/◌, ◌%◌
 use Rattle.std.proofs.lemmas.Bool.{and_from, and_parts, eqb-true, lt-ltb, ltb-true, not-true}
 use Rattle.std.proofs.lemmas.Bool.Decides.{nat_tests}
 use Rattle.std.specs.Bool.{then_some}
-use Rattle.isa.specs.Fields.{primary_of, first_of, second_of, low_of, third_of, extended_of, last_of, fields_of, bit, half_form, extended_form}
+use Rattle.isa.specs.Fields.{primary_of, first_of, second_of, low_of, third_of, extended_of, last_of, fields_of, bit, given, half_form, extended_form}
 use Rattle.isa.specs.Listed.{primary_at, nineteen_at, extended_at}
-use Rattle.isa.specs.Valid.{load_valid, store_valid, branch_valid}
+use Rattle.isa.specs.Valid.{branch_valid}
 use Rattle.isa.specs.Decoded.{bare, by_nineteen, by_extended, by_primary, decoded}
 use Rattle.isa.specs.Encoded.{encoded}
 use Rattle.isa.specs.Opcodes.{immediate_opcode, logical_immediate_opcode, compare_immediate_opcode, rotate_opcode, load_opcode, store_opcode, branch_extended, condition_extended, bare_opcode, bare_extended, arithmetic_extended, arithmetic_unary_extended, multiply_high_extended, logical_extended, logical_unary_extended, compare_extended, load_extended, store_extended, load_indexed_extended, store_indexed_extended, move_extended, special_extended, tlb_word_extended}
@@ -29,6 +29,10 @@ Back w (Some i) = encoded i ≡ Some w
 then_back : (w : ℕ) (b : Bool) (i : Instruction) → (b ≡ true → encoded i ≡ Some w) → Back w (then_some b i)
 then_back w true i h = h refl
 then_back w false i h = tt
+
+given_back : (w : ℕ) (b : Bool) (o : Option Instruction) → (b ≡ true → Back w o) → Back w (given b o)
+given_back w true o h = h refl
+given_back w false o h = tt
 
 found_back : {X : Type 0} (w : ℕ) (by : X → Option Instruction) (o : Option X) → ((x : X) → o ≡ Some x → Back w (by x)) → Back w (option_and_then by o)
 found_back w by None h = tt
@@ -95,13 +99,9 @@ module _ (w : ℕ) (fits : w < 2 ^ 32) where
       given_true _ _ _ f.0 (cc))
   extended_back extended.Trap p n = then_back w _ _ (λ t. as_clear 31 4 p n t)
   extended_back (extended.Load op update) p n =
-      then_back w _ _
-      (λ t. let s = and_parts (not (last_of (low_of w))) (load_valid update (first_of w) (second_of w)) t in
-      given_true _ _ _ s.1 (as_clear 31 (load_extended op + 32 * bit update) p n s.0))
+      given_back w _ _ (λ l. then_back w _ _ (λ v. given_true _ _ _ v (as_clear 31 (load_extended op + 32 * bit update) p n l)))
   extended_back (extended.Store op update) p n =
-      then_back w _ _
-      (λ t. let s = and_parts (not (last_of (low_of w))) (store_valid update (second_of w)) t in
-      given_true _ _ _ s.1 (as_clear 31 (store_extended op + 32 * bit update) p n s.0))
+      given_back w _ _ (λ l. then_back w _ _ (λ v. given_true _ _ _ v (as_clear 31 (store_extended op + 32 * bit update) p n l)))
   extended_back (extended.LoadIndexed op) p n = then_back w _ _ (λ t. as_clear 31 (load_indexed_extended op) p n t)
   extended_back (extended.StoreIndexed op) p n = then_back w _ _ (λ t. as_clear 31 (store_indexed_extended op) p n t)
   extended_back extended.StoreConditional p n = then_back w _ _ (λ t. let e = as_extended 31 150 p n in cc)

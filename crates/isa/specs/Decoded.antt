@@ -2,7 +2,7 @@
 use Rattle.std.specs.Prelude.{ℕ, ◌+◌, ◌*◌, ◌/◌, ◌%◌, Bool, not, ◌&&◌, Some, Option, option_and_then, ◌==◌, nat_lt}
 use Rattle.std.specs.Bool.{then_some}
 use Rattle.isa.specs.declared.fields.Fields.{Fields}
-use Rattle.isa.specs.Fields.{primary_of, fields_of}
+use Rattle.isa.specs.Fields.{primary_of, fields_of, given}
 use Rattle.isa.specs.Listed.{primary_at, nineteen_at, extended_at}
 use Rattle.isa.specs.Valid.{load_valid, store_valid, options_valid, branch_valid}
 use Rattle.isa.specs.declared.table.Primary.{Primary}
@@ -11,6 +11,9 @@ use Rattle.isa.specs.declared.table.Nineteen.{Nineteen}
 use Rattle.isa.specs.declared.table.Nineteen.TheVariants as nineteen
 use Rattle.isa.specs.declared.table.Extended.{Extended}
 use Rattle.isa.specs.declared.table.Extended.TheVariants as extended
+use Rattle.isa.specs.declared.instruction.LoadOp.{LoadOp}
+use Rattle.isa.specs.declared.instruction.StoreOp.{StoreOp}
+use Rattle.isa.specs.declared.instruction.Offset.{Offset}
 use Rattle.isa.specs.declared.instruction.Offset.TheVariants.{Displacement, Index}
 use Rattle.isa.specs.declared.instruction.Instruction.{Instruction}
 use Rattle.isa.specs.declared.instruction.Instruction.TheVariants.{Immediate, LogicalImmediate, CompareImmediate, TrapImmediate, Load, Store, Branch, BranchConditional, BranchRegister, SystemCall, Rotate, ConditionLogical, MoveConditionField, Bare, Arithmetic, ArithmeticUnary, MultiplyHigh, Logical, LogicalUnary, ShiftRightImmediate, Select, Compare, Trap, LoadIndexed, StoreIndexed, StoreConditional, MoveFromXer, Move, WriteExternalEnable, MoveToConditionFields, MoveSpecial, TlbWord, TlbSearch, Barrier}
@@ -20,6 +23,13 @@ use Rattle.isa.specs.declared.instruction.Instruction.TheVariants.{Immediate, Lo
 -- no operands: bits 6 to 20 and 31 are reserved
 abbrev pub bare : Fields → Bool
 bare f = f.first == 0 && (f.second == 0 && (f.third == 0 && not f.last))
+
+-- a load and a store of an operation, with update or without, and of an offset
+abbrev pub load_of : LoadOp → Bool → Offset → Fields → Option Instruction
+load_of op update offset f = then_some (load_valid update f.first f.second) (Load (record { op = op; rt = f.first; ra = f.second; offset = offset; update = update }))
+
+abbrev pub store_of : StoreOp → Bool → Offset → Fields → Option Instruction
+store_of op update offset f = then_some (store_valid update f.second) (Store (record { op = op; rs = f.first; ra = f.second; offset = offset; update = update }))
 
 -- under the primary opcode 19
 abbrev pub by_nineteen : Nineteen → Fields → Option Instruction
@@ -45,10 +55,8 @@ by_extended extended.Select f = then_some (not f.last) (Select (record { rt = f.
 by_extended (extended.Compare comparison) f =
     then_some (f.first % 4 == 0 && not f.last) (Compare (record { comparison = comparison; field = f.first / 4; ra = f.second; rb = f.third }))
 by_extended extended.Trap f = then_some (not f.last) (Trap (record { conditions = f.first; ra = f.second; rb = f.third }))
-by_extended (extended.Load op update) f =
-    then_some (not f.last && load_valid update f.first f.second) (Load (record { op = op; rt = f.first; ra = f.second; offset = Index f.third; update = update }))
-by_extended (extended.Store op update) f =
-    then_some (not f.last && store_valid update f.second) (Store (record { op = op; rs = f.first; ra = f.second; offset = Index f.third; update = update }))
+by_extended (extended.Load op update) f = given (not f.last) (load_of op update (Index f.third) f)
+by_extended (extended.Store op update) f = given (not f.last) (store_of op update (Index f.third) f)
 by_extended (extended.LoadIndexed op) f = then_some (not f.last) (LoadIndexed (record { op = op; rt = f.first; ra = f.second; rb = f.third }))
 by_extended (extended.StoreIndexed op) f = then_some (not f.last) (StoreIndexed (record { op = op; rs = f.first; ra = f.second; rb = f.third }))
 by_extended extended.StoreConditional f = then_some f.last (StoreConditional (record { rs = f.first; ra = f.second; rb = f.third }))
@@ -78,10 +86,8 @@ by_primary (primary.CompareImmediate comparison) w f =
 by_primary primary.TrapImmediate w f = Some (TrapImmediate (record { conditions = f.first; ra = f.second; immediate = f.low }))
 by_primary (primary.Rotate op) w f =
     Some (Rotate (record { op = op; ra = f.second; rs = f.first; amount = f.third; begin = f.extended / 32; end = f.extended % 32; rc = f.last }))
-by_primary (primary.Load op update) w f =
-    then_some (load_valid update f.first f.second) (Load (record { op = op; rt = f.first; ra = f.second; offset = Displacement f.low; update = update }))
-by_primary (primary.Store op update) w f =
-    then_some (store_valid update f.second) (Store (record { op = op; rs = f.first; ra = f.second; offset = Displacement f.low; update = update }))
+by_primary (primary.Load op update) w f = load_of op update (Displacement f.low) f
+by_primary (primary.Store op update) w f = store_of op update (Displacement f.low) f
 by_primary primary.BranchConditional w f =
     then_some (options_valid f.first) (BranchConditional (record { options = f.first; bit = f.second; displacement = f.low / 4; absolute = (f.low / 2 % 2 == 1); link = f.last }))
 by_primary primary.SystemCall w f = then_some (w == 0x44000002) SystemCall

@@ -1,6 +1,6 @@
 //! The instruction of a word.
 ghost use Rattle.std.specs.Prelude.{◌≡◌, ℕ, ◌<◌};
-ghost use Rattle.isa.specs.Decoded.{bare, by_nineteen, by_extended, by_primary, decoded};
+ghost use Rattle.isa.specs.Decoded.{bare, load_of, store_of, by_nineteen, by_extended, by_primary, decoded};
 ghost use Rattle.isa.specs.Fields.{fields_of};
 ghost use Rattle.isa.specs.Lossless.{Lossless};
 ghost use Rattle.isa.specs.Ranges.{DecodedInRange};
@@ -16,6 +16,32 @@ fn bare(f: Fields) -> bool
     ensures { result ≡ bare f }
 {
     f.first == 0 && f.second == 0 && f.third == 0 && !f.last
+}
+
+/// A load, where its registers are valid.
+fn read_load(op: LoadOp, update: bool, offset: Offset, f: Fields) -> Option<Instruction>
+    ensures { result ≡ load_of op update offset f }
+{
+    valid_load(update, f.first, f.second).then_some(Instruction::Load(Load {
+        op,
+        rt: f.first,
+        ra: f.second,
+        offset,
+        update,
+    }))
+}
+
+/// A store, where its base is valid.
+fn read_store(op: StoreOp, update: bool, offset: Offset, f: Fields) -> Option<Instruction>
+    ensures { result ≡ store_of op update offset f }
+{
+    valid_store(update, f.second).then_some(Instruction::Store(Store {
+        op,
+        rs: f.first,
+        ra: f.second,
+        offset,
+        update,
+    }))
 }
 
 /// The instruction of a word under the primary opcode 19.
@@ -127,24 +153,8 @@ fn by_extended(form: Extended, f: Fields) -> Option<Instruction>
             ra: f.second,
             rb: f.third,
         })),
-        Extended::Load(op, update) if !f.last && valid_load(update, f.first, f.second) => Some(
-            Instruction::Load(Load {
-                op,
-                rt: f.first,
-                ra: f.second,
-                offset: Offset::Index(f.third),
-                update,
-            }),
-        ),
-        Extended::Store(op, update) if !f.last && valid_store(update, f.second) => Some(
-            Instruction::Store(Store {
-                op,
-                rs: f.first,
-                ra: f.second,
-                offset: Offset::Index(f.third),
-                update,
-            }),
-        ),
+        Extended::Load(op, update) if !f.last => read_load(op, update, Offset::Index(f.third), f),
+        Extended::Store(op, update) if !f.last => read_store(op, update, Offset::Index(f.third), f),
         Extended::LoadIndexed(op) if !f.last => Some(Instruction::LoadIndexed(LoadIndexed {
             op,
             rt: f.first,
@@ -255,24 +265,8 @@ fn by_primary(form: Primary, word: u32) -> Option<Instruction>
             end: f.extended % 32,
             rc: f.last,
         })),
-        Primary::Load(op, update) if valid_load(update, f.first, f.second) => Some(
-            Instruction::Load(Load {
-                op,
-                rt: f.first,
-                ra: f.second,
-                offset: Offset::Displacement(f.low),
-                update,
-            }),
-        ),
-        Primary::Store(op, update) if valid_store(update, f.second) => Some(Instruction::Store(
-            Store {
-                op,
-                rs: f.first,
-                ra: f.second,
-                offset: Offset::Displacement(f.low),
-                update,
-            },
-        )),
+        Primary::Load(op, update) => read_load(op, update, Offset::Displacement(f.low), f),
+        Primary::Store(op, update) => read_store(op, update, Offset::Displacement(f.low), f),
         Primary::BranchConditional if valid_options(f.first) => Some(
             Instruction::BranchConditional(BranchConditional {
                 options: f.first,

@@ -189,7 +189,8 @@ pub enum BareOp {
     Tlbsync = 566,
 }
 
-// Formats of one shape stay apart where a register has another name: rt is written and rs read, and ra written in logic.
+// Formats of one shape stay apart where a register's name differs: rt is written, rs is read, and logic writes ra.
+
 /// addi, addis, addic, addic., subfic, mulli.
 #[derive(Clone, Copy, PartialEq, Eq, Debug)]
 pub struct Immediate {

@@ -14,7 +14,8 @@ fn legal(rt: &impl Abort, heap: Global, rows: &[(u32, &str)]) -> Result<(), Fail
     for (word, text) in rows {
         let shown = format!(in heap; "{}", Word(*word))?;
         assert_eq!(rt; shown.as_str(), *text);
-        assert_eq!(rt; decode(*word).and_then(encode), Some(*word), "{}", text);
+        let instruction = decode(*word).ok_or("no instruction")?;
+        assert_eq!(rt; encode(instruction), Some(*word), "{}", text);
     }
     Ok(())
 }
