@@ -1,5 +1,5 @@
 -- What is read from the flag page, and what a write makes of it.
-use Rattle.std.proofs.Common.{◌≡◌, ℕ, ◌-◌, ◌%◌, ◌^◌, ◌<◌, Bool, true, false, eqb, None, Ok, Result, sym, refl, ◌∙◌, inr, arith}
+use Rattle.std.proofs.Common.{◌≡◌, ℕ, ◌-◌, ◌%◌, ◌^◌, Bool, true, false, eqb, None, Ok, Result, sym, refl, ◌∙◌, inr, arith}
 use Rattle.bus.specs.Model.{big_endian, put_at, read_of, written, after, frame_of, offset_of}
 use Rattle.flags.specs.Flags.{without, page_bytes, is_page, page_denial, page_rule, page}
 use Rattle.bus.proofs.Models.{model_ext, after_served}
@@ -36,11 +36,11 @@ module _ (n x y a w : ℕ) (served : page_denial n a w ≡ None) where
   there : is_page n (frame_of a) ≡ true
   there = grind arith
 
-  pub read_flags : x < 2 ^ 32 → offset_of a ≡ 0 → ◌≡◌ {A = Result ℕ ℕ} (Ok x) (read_of (page n x y) a w)
-  read_flags l o = let e = value_flags x y in let f = word in let g = there in simp (word, o) (grind arith)
+  pub read_flags : offset_of a ≡ 0 → ◌≡◌ {A = Result ℕ ℕ} (Ok (x % 2 ^ 32)) (read_of (page n x y) a w)
+  read_flags o = let e = value_flags x y in let f = word in let g = there in simp (word, o) (grind arith)
 
-  pub read_enable : y < 2 ^ 32 → offset_of a ≡ 4 → ◌≡◌ {A = Result ℕ ℕ} (Ok y) (read_of (page n x y) a w)
-  read_enable l o = let e = value_enable x y in let f = word in let g = there in simp (word, o) (grind arith)
+  pub read_enable : offset_of a ≡ 4 → ◌≡◌ {A = Result ℕ ℕ} (Ok (y % 2 ^ 32)) (read_of (page n x y) a w)
+  read_enable o = let e = value_enable x y in let f = word in let g = there in simp (word, o) (grind arith)
 
   -- a write that makes of the page's bytes those of the words x' and y'
   wrote : (v x' y' : ℕ) → ((k : ℕ) → page_rule (page_bytes x y) (offset_of a) w v k ≡ page_bytes x' y' k) → page n x' y' ≡ after (page n x y) a w v
