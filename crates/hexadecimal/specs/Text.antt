@@ -32,6 +32,7 @@ is_known Other = false
 abbrev pub unknown : List ℕ → Option ℕ
 unknown text = position (λ c. not (is_known (symbol_of c))) text
 
+-- the value of a digit
 abbrev pub digit_of : Symbol → Option ℕ
 digit_of (Digit d) = Some d
 digit_of Space = None
@@ -51,6 +52,7 @@ pairs (high ∷ low ∷ ds) = (high * 16 + low) ∷ pairs ds
 abbrev pub whole : List ℕ → Result (List ℕ) Fault
 whole ds = cond (length ds % 2 == 1) (Err HalfByte) (Ok (pairs ds))
 
+-- a fault where there is such a character, and else the rest
 abbrev pub unless : Option ℕ → Result (List ℕ) Fault → Result (List ℕ) Fault
 unless (Some at) r = Err (NoDigit at)
 unless None r = r

@@ -59,6 +59,7 @@ Ranges (Ok (Some r)) = InRange (item r)
 Ranges (Ok None) = Unit {0}
 Ranges (Err e) = Unit {0}
 
+-- nothing remains where the reader is gone
 abbrev pub remaining_of : Option Reader → Result (List Item) Refusal
 remaining_of (Some r) = remaining r
 remaining_of None = Ok []
@@ -67,11 +68,12 @@ remaining_of None = Ok []
 abbrev pub to_come : Records → Result (List Item) Refusal
 to_come s = remaining_of s.reader
 
+-- a byte more than the reader has yet to read, for the refusal that may come
 abbrev pub unread_of : Option Reader → ℕ
 unread_of (Some r) = unread r + 1
 unread_of None = 0
 
--- a loop has at most so many turns left: each record takes a byte or more, and a refusal may follow
+-- a loop has at most so many turns left: each record takes a byte or more
 abbrev pub turns_left : Records → ℕ
 turns_left s = unread_of s.reader
 
