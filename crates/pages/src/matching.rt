@@ -1,6 +1,6 @@
 // Which entry an address matches.
-ghost use Rattle.std.specs.Prelude.{◌≡◌, ℕ, ◌*◌, ◌^◌, ◌<◌, true, length};
-ghost use Rattle.pages.specs.Matching.{has, size_of, is_page, page_bytes, agrees, matches, Lowest};
+ghost use Rattle.std.specs.Prelude.{◌≡◌, ℕ, ◌*◌, ◌^◌, ◌<◌, true};
+ghost use Rattle.pages.specs.Matching.{has, size_of, is_page, page_bytes, agrees, matches};
 
 use crate::entry::Entry;
 
@@ -56,16 +56,4 @@ impl Entry {
             && (self.tid == 0 || self.tid == address.pid)
             && self.agrees(address.effective)
     }
-}
-
-/// The number of the first entry that the address matches.
-pub(crate) fn first(entries: &[Entry], address: &VirtualAddress) -> Option<usize>
-    ensures { Lowest entries.now address.now result }
-{
-    for (i, entry) in entries.iter().enumerate() {
-        if entry.matches(address) {
-            return Some(i);
-        }
-    }
-    None
 }

@@ -6,7 +6,7 @@ ghost use Rattle.pages.specs.Translating.{translate, InReal};
 ghost use Rattle.pages.specs.Tables.{with_entry, selected, written};
 
 use crate::entry::{Entry, Word};
-use crate::matching::{VirtualAddress, first};
+use crate::matching::VirtualAddress;
 use crate::translation::{PageFault, Right};
 use std::error::Error;
 use std::fmt;
@@ -40,14 +40,22 @@ impl Pages {
         }
     }
 
+    /// The place of the first entry that the address matches.
+    #[tactic(auto, unfolding(crate::specs::Matching::found))]
+    fn first(&self, address: &VirtualAddress) -> Option<usize>
+        ensures value { result ≡ found self.now.entries address.now }
+        ensures lowest { Lowest self.now.entries address.now result }
+    {
+        self.entries.iter().position(|entry| entry.matches(address))
+    }
+
     /// The number of the first entry that the address matches.
-    #[tactic(auto, using(crate::proofs::Searching::lowest_found))]
     pub fn search(&self, address: VirtualAddress) -> Option<u32>
         ensures value { result ≡ found self.now.entries address }
         ensures lowest { Lowest self.now.entries address result }
         ensures number { IfSome result (λ n. n < 64) }
     {
-        first(&self.entries, &address).map(|number| number as u32)
+        self.first(&address).map(|number| number as u32)
     }
 
     /// The real address of an access to the address, which needs the right.
