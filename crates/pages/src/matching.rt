@@ -24,6 +24,7 @@ impl Entry {
     }
 
     /// The number of bytes in the entry's page.
+    #[tactic(auto, using(crate::proofs::Sizes::page_shifted, crate::proofs::Sizes::page_positive))]
     pub(crate) fn page_bytes(&self) -> u64
         ensures { (result ≡ page_bytes self.now) × (0 < result) }
     {

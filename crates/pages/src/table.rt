@@ -77,6 +77,7 @@ impl Pages {
     }
 
     /// Replaces the entry of that number, less the bits that entries do not keep. Refuses 64 and above.
+    #[tactic(auto, unfolding(crate::specs::Tables::with_entry))]
     pub fn put(&mut self, number: u32, entry: Entry) -> Result<(), NoSuchEntry>
         ensures answer { is_ok result ≡ nat_lt number 64 }
         ensures value { self.new.entries ≡ with_entry self.old.entries number entry }
@@ -91,6 +92,7 @@ impl Pages {
 
     /// Rewrites a word of the entry that the low six bits of `selector` name, and with its first word its TID, as tlbwe
     /// does. Bits that entries do not keep are dropped.
+    #[tactic(auto, unfolding(crate::specs::Tables::written))]
     pub fn write(&mut self, selector: u32, word: Word, value: u32, tid: u32)
         ensures value { self.new.entries ≡ written self.old.entries selector word value tid }
         ensures kept { AllKept self.old.entries → AllKept self.new.entries }

@@ -65,6 +65,7 @@ impl Entry {
     }
 
     /// The real address of an address in the entry's page.
+    #[tactic(auto, using(crate::proofs::Sizes::real_bound))]
     fn real(&self, effective: u32) -> u64
         requires { is_page self.now ≡ true }
         ensures { (result ≡ real_of self.now effective) × (result < 2 ^ 36) }
