@@ -26,6 +26,7 @@ impl Error for NoSuchEntry {}
 /// The page entries, by number.
 #[derive(Drop)]
 pub struct Pages {
+    // Anyone may build a table of any entries, so that all are kept is said by the methods, and by no ghost field.
     pub entries: [Entry; 64],
 }
 

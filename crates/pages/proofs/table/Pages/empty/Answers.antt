@@ -4,4 +4,4 @@ use Rattle.pages.specs.Entries.{Kept}
 use Rattle.pages.proofs.table.Pages.empty.Goals as goal
 
 pub returns-clause-kept : goal.returns-clause-kept
-returns-clause-kept c = All-replicate Kept 64 c.default.result (search rules)
+returns-clause-kept c = All-replicate Kept 64 _ (search rules)
