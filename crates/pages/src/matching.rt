@@ -35,8 +35,7 @@ impl Entry {
     fn is_page(&self) -> bool
         ensures { result ≡ is_page self.now }
     {
-        let size = self.size();
-        size <= 5 || size == 7 || size == 9
+        matches!(self.size(), 0..=5 | 7 | 9)
     }
 
     /// Whether the address lies in the entry's page.
@@ -44,7 +43,7 @@ impl Entry {
         ensures { result ≡ agrees self.now effective }
     {
         let bytes = self.page_bytes();
-        effective as u64 / bytes == self.word0 as u64 / bytes
+        u64::from(effective) / bytes == u64::from(self.word0) / bytes
     }
 
     /// Whether the address matches the entry.

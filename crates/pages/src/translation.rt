@@ -71,9 +71,9 @@ impl Entry {
         ensures { (result ≡ real_of self.now effective) × (result < 2 ^ 36) }
     {
         let bytes = self.page_bytes();
-        let word1 = self.word1 as u64;
+        let word1 = u64::from(self.word1);
         let page = word1 / bytes * bytes;
-        word1 % 16 * 0x1_0000_0000 + (page + effective as u64 % bytes)
+        word1 % 16 * 0x1_0000_0000 + (page + u64::from(effective) % bytes)
     }
 
     /// What the entry makes of an address that matches it.
