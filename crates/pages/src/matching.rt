@@ -5,7 +5,7 @@ ghost use Rattle.pages.specs.Matching.{has, size_of, is_page, page_bytes, agrees
 use crate::entry::Entry;
 
 /// What the search for an entry is asked: an effective address, in the address space and the process that it is used in.
-#[derive(Clone, Copy)]
+#[derive(Clone, Copy, PartialEq, Eq, Debug)]
 pub struct VirtualAddress {
     /// The address space, 0 or 1.
     pub space: bool,
