@@ -13,8 +13,8 @@ use Rattle.cpu.specs.declared.deed.Privileged.{Privileged as PrivilegedDeed}
 use Rattle.cpu.specs.Effects.{Seen, Effect, finish, load, store, probe, trap, call, illegal, privileged, effect}
 use Rattle.pages.specs.declared.translation.Access.{Access}
 use Rattle.pages.specs.declared.translation.Access.TheVariants.{Fetch, Load, Store}
-use Rattle.pages.specs.declared.translation.Translation.{Translation}
-use Rattle.pages.specs.declared.translation.Translation.TheVariants.{Miss, Denied, Real}
+use Rattle.pages.specs.declared.translation.PageFault.{PageFault}
+use Rattle.pages.specs.declared.translation.PageFault.TheVariants.{Miss, Denied}
 use Rattle.core465.specs.Reaching.{Reach, external}
 use Rattle.step.specs.declared.answer.Stored.{Stored}
 use Rattle.step.specs.declared.answer.BusFault.{BusFault}
@@ -26,22 +26,22 @@ no : {A : Type 0} → ◌≡◌ {A = ℕ} 0 1 → A
 no e = absurd (omega arith)
 
 -- a fetch, a load or a store that goes to a real address was given it by the reach
-fetch_real : (t : Translation) (a : ℕ) → fetching t ≡ Ok a → t ≡ Real a
-fetch_real Miss a e = no (cc)
-fetch_real Denied a e = no (cc)
-fetch_real (Real b) a e = let z : b ≡ a = cc in ap Real z
+fetch_real : (t : Result ℕ PageFault) (a : ℕ) → fetching t ≡ Ok a → t ≡ Ok a
+fetch_real (Ok b) a e = let z : b ≡ a = cc in ap Ok z
+fetch_real (Err Miss) a e = no (cc)
+fetch_real (Err Denied) a e = no (cc)
 
-aligned-real : (b : Bool) (c : Cause) (p a : ℕ) → ◌≡◌ {A = Result ℕ Cause} (cond b (Ok p) (Err c)) (Ok a) → Real p ≡ Real a
-aligned-real true c p a e = let z : p ≡ a = cc in ap Real z
+aligned-real : (b : Bool) (c : Cause) (p a : ℕ) → ◌≡◌ {A = Result ℕ Cause} (cond b (Ok p) (Err c)) (Ok a) → ◌≡◌ {A = Result ℕ PageFault} (Ok p) (Ok a)
+aligned-real true c p a e = let z : p ≡ a = cc in ap Ok z
 aligned-real false c p a e = no (cc)
 
-data_real : (x : DataAccess) (n : ℕ) (t : Translation) (a : ℕ) → located x n t ≡ Ok a → t ≡ Real a
-data_real x n Miss a e = no (cc)
-data_real x n Denied a e = no (cc)
-data_real x n (Real b) a e = aligned-real (aligned x.effective n) (Alignment x) b a e
+data_real : (x : DataAccess) (n : ℕ) (t : Result ℕ PageFault) (a : ℕ) → located x n t ≡ Ok a → t ≡ Ok a
+data_real x n (Ok b) a e = aligned-real (aligned x.effective n) (Alignment x) b a e
+data_real x n (Err Miss) a e = no (cc)
+data_real x n (Err Denied) a e = no (cc)
 
 module _ (r : Reach) where
-  leads : (kinds : Access → Bool) (k : Access) → kinds k ≡ true → (ea a : ℕ) → r k ea ≡ Real a → Leads kinds r (frame_of a)
+  leads : (kinds : Access → Bool) (k : Access) → kinds k ≡ true → (ea a : ℕ) → r k ea ≡ Ok a → Leads kinds r (frame_of a)
   leads kinds k is ea a e = record { access = k; of_kind = is; effective = ea; real = a; goes = e; lands = refl }
 
   pub readable_reached : (f : ℕ) → Readable r f → Reached r f

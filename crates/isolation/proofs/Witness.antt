@@ -1,5 +1,5 @@
 -- Two lives on two boards of two frames of plain memory: in frame 0 stand a load and a store, frame 1 is out of reach.
-use Rattle.std.proofs.Common.{◌≡◌, ℕ, ◌+◌, ◌%◌, ◌^◌, ◌<◌, Bool, true, false, cond, eqb, get_or, replicate, Some, None, unwrap_or, sym, refl, ap, ◌∙◌, subst, arith}
+use Rattle.std.proofs.Common.{◌≡◌, ℕ, ◌+◌, ◌%◌, ◌^◌, ◌<◌, Bool, true, false, cond, eqb, get_or, replicate, Some, None, Ok, Err, Result, unwrap_or, sym, refl, ap, ◌∙◌, subst, arith}
 use lib.ListN.{length-replicate}
 use Rattle.std.proofs.lemmas.Bool.Decides.{nat_tests}
 use Rattle.bus.specs.Model.{Model, Bytes, big_endian, frame_of, offset_of}
@@ -18,7 +18,8 @@ use Rattle.pages.specs.declared.entry.Entry.{Entry as PageEntry}
 use Rattle.pages.specs.declared.matching.VirtualAddress.{VirtualAddress}
 use Rattle.pages.specs.declared.translation.Access.{Access}
 use Rattle.pages.specs.declared.translation.Access.TheVariants.{Fetch, Load, Store}
-use Rattle.pages.specs.declared.translation.Translation.TheVariants.{Miss, Real}
+use Rattle.pages.specs.declared.translation.PageFault.{PageFault}
+use Rattle.pages.specs.declared.translation.PageFault.TheVariants.{Miss}
 use Rattle.pages.specs.Matching.{matches, found}
 use Rattle.pages.specs.Tables.{with_entry}
 use Rattle.pages.specs.Translating.{real_of, resolved, translate}
@@ -80,13 +81,13 @@ abbrev address : ℕ → VirtualAddress
 address ea = record { space = false; pid = 0; effective = ea % 2 ^ 32 }
 
 module _ (a : ℕ) where
-  outside : Miss ≡ Real a → frame_of a ≡ 0
+  outside : ◌≡◌ {A = Result ℕ PageFault} (Err Miss) (Ok a) → frame_of a ≡ 0
   outside e = let z : ◌≡◌ {A = ℕ} 0 1 = cc in absurd (omega arith)
 
-  inside : (ea : ℕ) → Real (real_of page (ea % 2 ^ 32)) ≡ Real a → frame_of a ≡ 0
+  inside : (ea : ℕ) → ◌≡◌ {A = Result ℕ PageFault} (Ok (real_of page (ea % 2 ^ 32))) (Ok a) → frame_of a ≡ 0
   inside ea e = let z : 0 + (0 + ea % 2 ^ 32 % 1024) ≡ a = cc in omega arith
 
-  by-page : (k : Access) (b : Bool) (ea : ℕ) → resolved (at 16 7).machine.entries (address ea) true k (cond b (Some 0) None) ≡ Real a → frame_of a ≡ 0
+  by-page : (k : Access) (b : Bool) (ea : ℕ) → resolved (at 16 7).machine.entries (address ea) (record { user = true; access = k }) (cond b (Some 0) None) ≡ Ok a → frame_of a ≡ 0
   unfolding with_entry new_machine
   by-page Fetch true ea e = inside ea e
   by-page Fetch false ea e = outside e
@@ -95,7 +96,7 @@ module _ (a : ℕ) where
   by-page Store true ea e = inside ea e
   by-page Store false ea e = outside e
 
-  reaches : (k : Access) (ea : ℕ) → common k ea ≡ Real a → frame_of a ≡ 0
+  reaches : (k : Access) (ea : ℕ) → common k ea ≡ Ok a → frame_of a ≡ 0
   unfolding translate found with_entry new_machine
   reaches Fetch ea e = by-page Fetch (matches page (address ea)) ea e
   reaches Load ea e = by-page Load (matches page (address ea)) ea e
@@ -141,7 +142,7 @@ takes-store = record { stored = record { address = 0x200; width = 4; value = 0x8
 
 -- what one takes the other takes, by the law itself
 module _ (r : Reach) (s t : State) (al : Alike r s t) (l : TakesLoad s) where
-  goes-there : r Fetch s.machine.working.pc ≡ Real l.at
+  goes-there : r Fetch s.machine.working.pc ≡ Ok l.at
   goes-there = ap (λ (q : Reach). q Fetch s.machine.working.pc) (sym al.here) ∙ l.fetched
 
   frame_seen : Readable r (frame_of l.at)

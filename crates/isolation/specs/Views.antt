@@ -1,10 +1,9 @@
 -- What user state sees of a core and its bus, and when two of them are alike in it. Assumes nothing.
-use Rattle.std.specs.Prelude.{◌≡◌, ℕ, Bool, true, false}
+use Rattle.std.specs.Prelude.{◌≡◌, ℕ, Bool, true, false, Ok}
 use Rattle.bus.specs.declared.Direction.{Direction}
 use Rattle.bus.specs.Model.{Wiring, Model, frame_of}
 use Rattle.pages.specs.declared.translation.Access.{Access}
 use Rattle.pages.specs.declared.translation.Access.TheVariants.{Fetch, Load, Store}
-use Rattle.pages.specs.declared.translation.Translation.TheVariants.{Real}
 use Rattle.cpu.specs.Effects.{Seen}
 use Rattle.cpu.specs.Registers.{with_pc}
 use Rattle.core465.specs.Reaching.{Reach, seen, reach}
@@ -18,7 +17,7 @@ pub record Leads (kinds : Access → Bool) (r : Reach) (frame : ℕ) : Type 0 wh
   pub of_kind : kinds access ≡ true
   pub effective : ℕ
   pub real : ℕ
-  pub goes : r access effective ≡ Real real
+  pub goes : r access effective ≡ Ok real
   pub lands : frame_of real ≡ frame
 
 abbrev pub reads : Access → Bool

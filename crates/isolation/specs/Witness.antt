@@ -1,13 +1,12 @@
 -- The law is not empty: two lives that differ where user state cannot see, alike in user state, that then load and store.
 -- Assumes nothing.
-use Rattle.std.specs.Prelude.{◌≡◌, ℕ, Some, None}
+use Rattle.std.specs.Prelude.{◌≡◌, ℕ, Some, None, Ok}
 use Rattle.bus.specs.Model.{value_at}
 use Rattle.isa.specs.declared.instruction.Instruction.{Instruction}
 use Rattle.isa.specs.Decoded.{decoded}
 use Rattle.cpu.specs.declared.registers.Working.{Working}
 use Rattle.cpu.specs.Effects.{load, effect}
 use Rattle.pages.specs.declared.translation.Access.TheVariants.{Fetch}
-use Rattle.pages.specs.declared.translation.Translation.TheVariants.{Real}
 use Rattle.core465.specs.Reaching.{Reach, seen, reach}
 use Rattle.step.specs.declared.answer.Answer.TheVariants.{Done}
 use Rattle.step.specs.declared.answer.Stored.{Stored}
@@ -18,7 +17,7 @@ use Rattle.isolation.specs.Views.{Alike, Storable, Reached}
 -- a step that carries out a load: the word at the counter is an instruction whose effect is a load, and it is done
 pub record TakesLoad (s : State) : Type 0 where
   pub at : ℕ
-  pub fetched : reach s.machine Fetch s.machine.working.pc ≡ Real at
+  pub fetched : reach s.machine Fetch s.machine.working.pc ≡ Ok at
   pub instruction : Instruction
   pub read : decoded (value_at s.bus at 4) ≡ Some instruction
   pub address : ℕ

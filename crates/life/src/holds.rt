@@ -13,6 +13,8 @@ use service::{LookRefusal, Put, PutRefusal};
 use step::answer::Answer;
 use step::{Ran, RunRefusal};
 
+// Two types, and no type with a state as its parameter: each takes calls of its own, and `core` alone is in both.
+
 /// A stopped core: a hold that must be spent by `resume` or by `retire`.
 pub struct Stopped {
     core: Core,

@@ -5,7 +5,7 @@ use step::answer::Answer;
 use step::{Ran, RunRefusal};
 
 /// What a call of a life is answered with.
-#[derive(Clone, Copy)]
+#[derive(Clone, Copy, PartialEq, Eq, Debug)]
 pub enum Reply {
     Load(Result<(), Refusal>),
     Look(Result<u32, LookRefusal>),

@@ -18,7 +18,7 @@ pub enum StoppedCall {
 }
 
 /// A call that a running core takes.
-#[derive(Clone, Copy)]
+#[derive(Clone, Copy, PartialEq, Eq, Debug)]
 pub enum RunningCall {
     Step,
     Run(u32),
@@ -28,7 +28,7 @@ pub enum RunningCall {
 }
 
 /// What a core that is not retired shows, wherever it stands. It alters nothing.
-#[derive(Clone, Copy)]
+#[derive(Clone, Copy, PartialEq, Eq, Debug)]
 pub enum Display {
     Registers,
     /// The page entry that the low six bits of a number name.
@@ -46,7 +46,7 @@ pub enum Command {
 }
 
 /// All registers of a core.
-#[derive(Clone, Copy)]
+#[derive(Clone, Copy, PartialEq, Eq, Debug)]
 pub struct Registers {
     pub working: Working,
     pub shown: Shown,
@@ -54,7 +54,7 @@ pub struct Registers {
 }
 
 /// What a life answers to a command.
-#[derive(Clone, Copy)]
+#[derive(Clone, Copy, PartialEq, Eq, Debug)]
 pub enum Response {
     /// The reply to a call.
     Replied(Reply),

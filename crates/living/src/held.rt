@@ -71,28 +71,29 @@ fn on_running<B: Bus>(mut core: Running, bus: &mut B, call: RunningCall) -> (Hel
 }
 
 impl Held {
+    /// Shows something, while there is a core.
+    fn show<B: Bus>(&self, bus: &B, what: Display) -> Response
+        ensures { responded result (standing_of self.now (B.Bus.model bus.now)) ≡ obeyed (standing_of self.now (B.Bus.model bus.now)) (Command.Show what) }
+    {
+        match self {
+            Held::Down(core) => display(core.core(), bus, what),
+            Held::Up(core) => display(core.core(), bus, what),
+            Held::Gone => Response::Misplaced,
+        }
+    }
+
     /// Obeys a command.
     pub(crate) fn obey<B: Bus>(self, bus: &mut B, command: &Command) -> (Held, Response)
         ensures { responded result.1 (standing_of result.0 (B.Bus.model bus.new)) ≡ obeyed (standing_of self (B.Bus.model bus.old)) command.now }
     {
-        match self {
-            Held::Down(core) => match command {
-                Command::ToStopped(call) => on_stopped(core, bus, call),
-                Command::ToRunning(_) => (Held::Down(core), Response::Misplaced),
-                Command::Show(what) => {
-                    let response = display(core.core(), bus, *what);
-                    (Held::Down(core), response)
-                }
-            },
-            Held::Up(core) => match command {
-                Command::ToStopped(_) => (Held::Up(core), Response::Misplaced),
-                Command::ToRunning(call) => on_running(core, bus, *call),
-                Command::Show(what) => {
-                    let response = display(core.core(), bus, *what);
-                    (Held::Up(core), response)
-                }
-            },
-            Held::Gone => (Held::Gone, Response::Misplaced),
+        match (self, command) {
+            (Held::Down(core), Command::ToStopped(call)) => on_stopped(core, bus, call),
+            (Held::Up(core), Command::ToRunning(call)) => on_running(core, bus, *call),
+            (held, Command::Show(what)) => {
+                let response = held.show(bus, *what);
+                (held, response)
+            }
+            (held, _) => (held, Response::Misplaced),
         }
     }
 

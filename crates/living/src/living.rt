@@ -24,10 +24,7 @@ pub fn live<B: Bus>(
     ensures leaves { MatchResult result (λ _. B.Bus.model bus.new ≡ bus_of (lived commands.now (born (B.Bus.model bus.old)))) (λ _. B.Bus.model bus.new ≡ B.Bus.model bus.old) }
     ensures whole { OnOk result (Whole (B.Bus.model bus.old) (B.Bus.model bus.new)) }
 {
-    let mut answers = match Vec::with_capacity(heap, commands.len()) {
-        Ok(answers) => answers,
-        Err(error) => return Err(error),
-    };
+    let mut answers = Vec::with_capacity(heap, commands.len())?;
     let mut life = Held::Down(Stopped::new());
     for command in commands {
         let (next, response) = life.obey(bus, command);

@@ -7,15 +7,16 @@ ghost use Rattle.image.specs.Records.{InRange};
 ghost use Rattle.image.specs.Values.{item};
 ghost use Rattle.step.specs.Steps.{state_of};
 ghost use Rattle.loader.specs.Law.{LoadingLaw};
-ghost use Rattle.loader.specs.Loading.{serves, accepts, screened, checked, applied, Loaded, loaded_by, loaded};
+ghost use Rattle.loader.specs.Loading.{serves, accepts, screened, checked, entry_of, applied, Loaded, loaded_by, loaded};
 
 use bus::{Bus, Direction};
 use core465::Core;
-use image::{Reader, Reason, Record, Refusal, real_address};
+use image::{PageEntry, Reader, Reason, Record, Refusal, real_address};
 use pages::Entry;
 use placing::place;
 
 /// Whether the bus serves the write of each of these bytes, from the address on.
+// The loop goes over places: what the bytes are does not count.
 fn serves<B: Bus>(bus: &B, address: u64, bytes: &[u8]) -> bool
     requires { address < 2 ^ 40 }
     ensures { result ≡ serves (B.Bus.model bus.now) address bytes.now }
@@ -50,22 +51,28 @@ fn accepts<B: Bus>(bus: &B, found: Record) -> bool
 fn screen<B: Bus>(bus: &B, image: &[u8]) -> Result<(), Refusal>
     ensures { result ≡ checked (screened (B.Bus.model bus.now) image.now) }
 {
-    let mut reader = match Reader::open(image) {
-        Ok(reader) => reader,
-        Err(refusal) => return Err(refusal),
-    };
+    let mut reader = Reader::open(image)?;
     loop {
         let offset = reader.offset();
-        let next = match reader.next() {
-            Ok(next) => next,
-            Err(refusal) => return Err(refusal),
-        };
-        let Some(found) = next else {
+        let Some(found) = reader.next()? else {
             return Ok(());
         };
         if !accepts(bus, found) {
             return Err(Reason::Denied.at(offset));
         }
+    }
+}
+
+/// A page entry of an image, as the table holds it.
+// No `From`: its impl would stand in the crate of one of the two types, which know nothing of each other.
+fn entry_of(page: PageEntry) -> Entry
+    ensures { result ≡ entry_of page }
+{
+    Entry {
+        tid: u32::from(page.tid),
+        word0: page.word0,
+        word1: page.word1,
+        word2: page.word2,
     }
 }
 
@@ -75,15 +82,7 @@ fn apply<B: Bus>(core: &mut Core, bus: &mut B, found: Record)
     ensures { state_of core.new (B.Bus.model bus.new) ≡ applied (item found.entry) (state_of core.old (B.Bus.model bus.old)) }
 {
     match found {
-        Record::Entry(page) => {
-            let entry = Entry {
-                tid: u32::from(page.tid),
-                word0: page.word0,
-                word1: page.word1,
-                word2: page.word2,
-            };
-            core.set_entry(u32::from(page.number), entry);
-        }
+        Record::Entry(page) => core.set_entry(u32::from(page.number), entry_of(page)),
         Record::Data {
             erpn,
             address,
@@ -103,10 +102,7 @@ fn apply_all<B: Bus>(core: &mut Core, bus: &mut B, mut reader: Reader)
     requires { is_ok (remaining reader) ≡ true }
     ensures { state_of core.new (B.Bus.model bus.new) ≡ (loaded_by (remaining reader.entry) (state_of core.old (B.Bus.model bus.old))).state }
 {
-    while let Ok(next) = reader.next() {
-        let Some(found) = next else {
-            return;
-        };
+    while let Ok(Some(found)) = reader.next() {
         apply(core, bus, found);
     }
 }
@@ -117,11 +113,7 @@ pub fn load<B: Bus>(core: &mut Core, bus: &mut B, image: &[u8]) -> Result<(), Re
     ensures does { ◌≡◌ {A = Loaded} (record { answer = result; state = state_of core.new (B.Bus.model bus.new) }) (loaded image.now (state_of core.old (B.Bus.model bus.old))) }
     ensures lawful { LoadingLaw }
 {
-    if let Err(refusal) = screen(bus, image) {
-        return Err(refusal);
-    }
-    if let Ok(reader) = Reader::open(image) {
-        apply_all(core, bus, reader);
-    }
+    screen(bus, image)?;
+    apply_all(core, bus, Reader::open(image)?);
     Ok(())
 }

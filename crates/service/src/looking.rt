@@ -4,6 +4,8 @@ ghost use Rattle.bus.specs.Model.{read_of};
 ghost use Rattle.service.specs.Looking.{look_refusal, look_number, looked};
 
 use bus::{Bus, Code, MALFORMED};
+use std::error::Error;
+use std::fmt;
 
 /// Why a look is refused.
 #[derive(Clone, Copy, PartialEq, Eq, Debug)]
@@ -24,11 +26,13 @@ impl LookRefusal {
             LookRefusal::Denied(_) => 10,
         }
     }
+}
 
-    /// The refusal for a code of the bus.
-    fn of(code: Code) -> LookRefusal
-        ensures { result ≡ look_refusal code }
-    {
+/// The refusal for a code of the bus.
+impl From<Code> for LookRefusal {
+    ghost from_gives = { λ code refusal. refusal ≡ look_refusal code };
+
+    fn from(code: Code) -> LookRefusal {
         if code == MALFORMED {
             LookRefusal::Malformed
         } else {
@@ -37,12 +41,20 @@ impl LookRefusal {
     }
 }
 
+impl fmt::Display for LookRefusal {
+    fn fmt<W: fmt::Write>(&self, f: &mut fmt::Formatter<W>) -> fmt::Result {
+        match self {
+            LookRefusal::Malformed => write!(f, "no such access"),
+            LookRefusal::Denied(code) => write!(f, "denied with code {code}"),
+        }
+    }
+}
+
+impl Error for LookRefusal {}
+
 /// The value of the `width` bytes from a real address on.
 pub fn look<B: Bus>(bus: &B, address: u64, width: u32) -> Result<u32, LookRefusal>
     ensures { result ≡ looked (read_of (B.Bus.model bus.now) address width) }
 {
-    match bus.read(address, width) {
-        Ok(value) => Ok(value),
-        Err(code) => Err(LookRefusal::of(code)),
-    }
+    Ok(bus.read(address, width)?)
 }

@@ -1,14 +1,20 @@
 //! Registers and page entries, put from outside.
 ghost use Rattle.std.specs.Prelude.{◌≡◌, ℕ, ◌<◌, Bool};
 ghost use Rattle.std.specs.Option.{unwrap_or};
-ghost use Rattle.cpu.specs.Known.{Known};
-ghost use Rattle.service.specs.Putting.{fits, mask_of, entry_fits, put_number, put_special, put_answer, put_machine};
+ghost use Rattle.service.specs.Putting.{fits, mask_of, put_number, put_special, put_answer, put_machine};
+ghost use Rattle.service.specs.declared.putting.PutRefusal.TheVariants.{Unfit};
 
 use core465::Core;
+use cpu::special::NoSuchRegister;
 use pages::Entry;
+use std::error::Error;
+use std::fmt;
+
+/// The bits that MSR keeps, and so SRR1.
+const MSR_BITS: u32 = 0x0002_D230;
 
 /// What is put.
-#[derive(Clone, Copy)]
+#[derive(Clone, Copy, PartialEq, Eq, Debug)]
 pub enum Put {
     /// A general register, by its number from 0 to 31.
     Gpr { number: u32, value: u32 },
@@ -26,7 +32,26 @@ pub enum Put {
 pub enum PutRefusal {
     /// There is none of that number, or the value does not fit: it has bits that are not kept, or is a counter that is no
     /// multiple of four.
-    Unfit,
+    Unfit = 8,
+}
+
+impl fmt::Display for PutRefusal {
+    fn fmt<W: fmt::Write>(&self, f: &mut fmt::Formatter<W>) -> fmt::Result {
+        write!(
+            f,
+            "no such register or entry, or a value that does not fit it"
+        )
+    }
+}
+
+impl Error for PutRefusal {}
+
+impl From<NoSuchRegister> for PutRefusal {
+    ghost from_gives = { λ _ refusal. refusal ≡ Unfit };
+
+    fn from(_error: NoSuchRegister) -> PutRefusal {
+        PutRefusal::Unfit
+    }
 }
 
 impl PutRefusal {
@@ -34,9 +59,7 @@ impl PutRefusal {
     pub fn number(self) -> u32
         ensures { result ≡ put_number self }
     {
-        match self {
-            PutRefusal::Unfit => 8,
-        }
+        self as u32
     }
 }
 
@@ -55,7 +78,7 @@ fn mask_of(number: u32) -> Option<u32>
         1 => Some(0xE000_007F),
         8 | 9 | 61 | 256 | 272..=279 => Some(0xFFFF_FFFF),
         26 => Some(0xFFFF_FFFC),
-        27 => Some(0x0002_D230),
+        27 => Some(MSR_BITS),
         48 => Some(0x0000_00FF),
         62 => Some(0x0E80_0000),
         63 => Some(0xFFFF_0000),
@@ -65,51 +88,33 @@ fn mask_of(number: u32) -> Option<u32>
     }
 }
 
-/// Whether an entry has no other bits than those that entries keep.
-fn entry_fits(entry: Entry) -> bool
-    ensures { result ≡ entry_fits entry }
+/// Puts a special purpose register.
+fn put_special(core: &mut Core, number: u32, value: u32) -> Result<(), PutRefusal>
+    ensures answer { result ≡ put_answer (put_special number value core.old) }
+    ensures after { core.new ≡ unwrap_or (put_special number value core.old) core.old }
 {
-    fits(0xFF, entry.tid)
-        && fits(0xFFFF_FFF0, entry.word0)
-        && fits(0xFFFF_FC0F, entry.word1)
-        && fits(0xFFBF, entry.word2)
-}
-
-/// Puts a special purpose register; false where it does not fit, and then nothing changed.
-fn put_special(core: &mut Core, number: u32, value: u32) -> bool
-    ensures { Known result core.old core.new (put_special number value core.old) }
-{
-    match mask_of(number) {
-        Some(mask) if fits(mask, value) => core.set_numbered(number, value),
-        _ => false,
+    let mask = mask_of(number).ok_or(PutRefusal::Unfit)?;
+    if !fits(mask, value) {
+        return Err(PutRefusal::Unfit);
     }
+    core.set_numbered(number, value)?;
+    Ok(())
 }
 
-/// Puts a register or a page entry; false where it does not fit, and then nothing changed.
-fn try_put(core: &mut Core, put: Put) -> bool
-    ensures { Known result core.old core.new (put_machine put core.old) }
-{
-    match put {
-        Put::Gpr { number, value } if number < 32 => core.set_word(number, value),
-        Put::Special { number, value } => return put_special(core, number, value),
-        Put::Msr(word) if fits(0x0002_D230, word) => core.set_msr_word(word),
-        Put::Counter(counter) if counter % 4 == 0 => core.set_counter(counter),
-        Put::Entry { number, entry } if number < 64 && entry_fits(entry) => {
-            core.set_entry(number, entry)
-        }
-        _ => return false,
-    }
-    true
-}
-
-/// Puts a register or a page entry.
+/// Puts a register or a page entry. What does not fit changes nothing.
 pub fn put_value(core: &mut Core, what: Put) -> Result<(), PutRefusal>
     ensures answer { result ≡ put_answer (put_machine what core.old) }
     ensures after { core.new ≡ unwrap_or (put_machine what core.old) core.old }
 {
-    if try_put(core, what) {
-        Ok(())
-    } else {
-        Err(PutRefusal::Unfit)
+    match what {
+        Put::Gpr { number, value } if number < 32 => core.set_word(number, value),
+        Put::Special { number, value } => put_special(core, number, value)?,
+        Put::Msr(word) if fits(MSR_BITS, word) => core.set_msr_word(word),
+        Put::Counter(counter) if counter % 4 == 0 => core.set_counter(counter),
+        Put::Entry { number, entry } if number < 64 && entry.is_kept() => {
+            core.set_entry(number, entry)
+        }
+        _ => return Err(PutRefusal::Unfit),
     }
+    Ok(())
 }

@@ -1,9 +1,11 @@
 -- What a step will do, from what user state sees, what its accesses reach, and the bus. Assumes nothing.
-use Rattle.std.specs.Prelude.{ℕ, ◌%◌, Bool, true, false, cond, Some, None, Ok, Err, Option, Result, ◌==◌}
+use Rattle.std.specs.Prelude.{ℕ, ◌%◌, Bool, true, cond, Some, None, Ok, Err, Option, Result, ◌==◌}
 use Rattle.bus.specs.Model.{Model, read_of, write_of}
 use Rattle.bus.specs.declared.Direction.TheVariants.{Read, Write}
 use Rattle.isa.specs.declared.instruction.Instruction.{Instruction}
 use Rattle.isa.specs.Decoded.{decoded}
+use Rattle.interrupt.specs.declared.DataKind.{DataKind}
+use Rattle.interrupt.specs.declared.DataKind.TheVariants as kind
 use Rattle.interrupt.specs.declared.DataAccess.{DataAccess}
 use Rattle.interrupt.specs.declared.Cause.{Cause}
 use Rattle.interrupt.specs.declared.Cause.TheVariants.{ExternalInput, InstructionTlbError, InstructionStorage, Program, SystemCall, DataTlbError, DataStorage, Alignment}
@@ -13,8 +15,8 @@ use Rattle.cpu.specs.declared.deed.Privileged.{Privileged as PrivilegedDeed}
 use Rattle.cpu.specs.Effects.{Seen, Effect, finish, load, store, probe, trap, call, illegal, privileged, effect}
 use Rattle.pages.specs.declared.translation.Access.{Access}
 use Rattle.pages.specs.declared.translation.Access.TheVariants.{Fetch, Load, Store}
-use Rattle.pages.specs.declared.translation.Translation.{Translation}
-use Rattle.pages.specs.declared.translation.Translation.TheVariants.{Miss, Denied, Real}
+use Rattle.pages.specs.declared.translation.PageFault.{PageFault}
+use Rattle.pages.specs.declared.translation.PageFault.TheVariants.{Miss, Denied}
 use Rattle.core465.specs.Reaching.{Reach, external}
 use Rattle.step.specs.declared.answer.Stored.{Stored}
 use Rattle.step.specs.declared.answer.BusFault.{BusFault}
@@ -39,28 +41,29 @@ abbrev pub aligned : (address width : ℕ) → Bool
 aligned a n = cond (n == 4) (a % 4 == 0) (cond (n == 2) (a % 2 == 0) true)
 
 -- the real address of a fetch, or its interrupt
-abbrev pub fetching : Translation → Result ℕ Cause
-fetching Miss = Err InstructionTlbError
-fetching Denied = Err InstructionStorage
-fetching (Real a) = Ok a
+abbrev pub fetching : Result ℕ PageFault → Result ℕ Cause
+fetching (Ok a) = Ok a
+fetching (Err Miss) = Err InstructionTlbError
+fetching (Err Denied) = Err InstructionStorage
 
 -- the real address of a load or a store, or its interrupt: match, right and alignment, in this order
-abbrev pub located : DataAccess → (width : ℕ) → Translation → Result ℕ Cause
-located x n Miss = Err (DataTlbError x)
-located x n Denied = Err (DataStorage x)
-located x n (Real a) = cond (aligned x.effective n) (Ok a) (Err (Alignment x))
+abbrev pub located : DataAccess → (width : ℕ) → Result ℕ PageFault → Result ℕ Cause
+located x n (Ok a) = cond (aligned x.effective n) (Ok a) (Err (Alignment x))
+located x n (Err Miss) = Err (DataTlbError x)
+located x n (Err Denied) = Err (DataStorage x)
 
-abbrev pub access_of : DataAccess → Access
-access_of x = cond x.store Store Load
+abbrev pub access_of : DataKind → Access
+access_of kind.Load = Load
+access_of kind.Store = Store
 
 abbrev pub goes : Reach → DataAccess → (width : ℕ) → Result ℕ Cause
-goes r x n = located x n (r (access_of x) x.effective)
+goes r x n = located x n (r (access_of x.kind) x.effective)
 
 abbrev pub loading_at : ℕ → DataAccess
-loading_at a = record { effective = a; store = false }
+loading_at a = record { effective = a; kind = kind.Load }
 
 abbrev pub storing_at : ℕ → DataAccess
-storing_at a = record { effective = a; store = true }
+storing_at a = record { effective = a; kind = kind.Store }
 
 -- the plan at a real address, or the interrupt
 abbrev pub at_real : (ℕ → Plan) → Result ℕ Cause → Plan

@@ -1,5 +1,5 @@
 -- One step of a core on a bus: its plan, enacted. Assumes nothing.
-use Rattle.std.specs.Prelude.{Some, None, Option}
+use Rattle.std.specs.Prelude.{Some, None, Ok, Err, Option, Result}
 use Rattle.bus.specs.Model.{Model, written}
 use Rattle.interrupt.specs.declared.Cause.{Cause}
 use Rattle.interrupt.specs.declared.Cause.TheVariants.{Program}
@@ -12,6 +12,9 @@ use Rattle.core465.specs.Interrupting.{interrupted}
 use Rattle.core465.specs.Reaching.{seen, reach}
 use Rattle.step.specs.declared.answer.Answer.{Answer}
 use Rattle.step.specs.declared.answer.Answer.TheVariants.{Done, Interrupt, BusFault}
+use Rattle.step.specs.declared.answer.Stored.{Stored}
+use Rattle.step.specs.declared.stepping.Stop.{Stop}
+use Rattle.step.specs.declared.stepping.Stop.TheVariants as stop
 use Rattle.step.specs.Plans.{Plan, works, writes, faults, does, leaves, planned}
 
 -- a core and its bus
@@ -57,6 +60,12 @@ stepped s = enacted s (planned (seen s.machine) (reach s.machine) s.bus)
 -- a core over a bus, as the state that the specification steps
 abbrev pub state_of : Machine → Model → State
 state_of k m = record { machine = k; bus = m }
+
+-- an instruction that is done, or why it is not: an interrupt is taken then
+abbrev pub finished : Result (Option Stored) Stop → State → Stepped
+finished (Ok x) s = record { answer = Done x; state = s }
+finished (Err (stop.Interrupt c)) s = interrupting s c
+finished (Err (stop.BusFault x)) s = record { answer = BusFault x; state = s }
 
 abbrev pub outcome : Answer → Machine → Model → Stepped
 outcome a k m = record { answer = a; state = state_of k m }

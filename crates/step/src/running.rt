@@ -7,6 +7,8 @@ use crate::answer::Answer;
 use crate::stepping::step;
 use bus::Bus;
 use core465::Core;
+use std::error::Error;
+use std::fmt;
 
 /// The most steps of a run.
 pub const MOST_STEPS: u32 = 1_000_000;
@@ -22,17 +24,23 @@ pub struct Ran {
 #[derive(Clone, Copy, PartialEq, Eq, Debug)]
 pub enum RunRefusal {
     /// It has no step, or more than `MOST_STEPS`.
-    BadCount,
+    BadCount = 11,
 }
+
+impl fmt::Display for RunRefusal {
+    fn fmt<W: fmt::Write>(&self, f: &mut fmt::Formatter<W>) -> fmt::Result {
+        write!(f, "a run has 1 to 1000000 steps")
+    }
+}
+
+impl Error for RunRefusal {}
 
 impl RunRefusal {
     /// The number by which the refusal is known.
     pub fn number(self) -> u32
         ensures { result ≡ run_refusal_number self }
     {
-        match self {
-            RunRefusal::BadCount => 11,
-        }
+        self as u32
     }
 }
 
@@ -43,8 +51,7 @@ impl Answer {
     {
         match self {
             Answer::Done(_) => false,
-            Answer::Interrupt(_) => true,
-            Answer::BusFault(_) => true,
+            Answer::Interrupt(_) | Answer::BusFault(_) => true,
         }
     }
 }
@@ -56,12 +63,18 @@ pub fn run<B: Bus>(core: &mut Core, bus: &mut B, n: u32) -> Result<Ran, RunRefus
     if n == 0 || n > MOST_STEPS {
         return Err(RunRefusal::BadCount);
     }
-    let mut steps = 1;
-    loop {
-        let last = step(core, bus);
-        if steps == n || last.ends() {
-            return Ok(Ran { steps, last });
+    let mut ran = Ran {
+        steps: 1,
+        last: step(core, bus),
+    };
+    for steps in 2..=n {
+        if ran.last.ends() {
+            break;
         }
-        steps += 1;
+        ran = Ran {
+            steps,
+            last: step(core, bus),
+        };
     }
+    Ok(ran)
 }

@@ -4,17 +4,52 @@ ghost use Rattle.bus.specs.Model.{Model};
 ghost use Rattle.cpu.specs.Effects.{effect, loads, stores, probe};
 ghost use Rattle.cpu.specs.Memory.{settled};
 ghost use Rattle.core465.specs.Reaching.{seen, reach};
-ghost use Rattle.step.specs.Plans.{aligned, fetching, access_of, goes, leaves, permits, carries};
-ghost use Rattle.step.specs.Steps.{state_of, outcome, enacted, stepped};
+ghost use Rattle.interrupt.specs.declared.Cause.TheVariants.{Program};
+ghost use Rattle.interrupt.specs.declared.ProgramFault.TheVariants.{Illegal};
+ghost use Rattle.step.specs.declared.stepping.Stop.TheVariants as stop;
+ghost use Rattle.step.specs.Plans.{aligned, fetching, access_of, goes, permits, carries};
+ghost use Rattle.step.specs.Steps.{state_of, outcome, finished, enacted, stepped};
 
 use crate::answer::{Answer, BusFault, Layer, Stored};
-use bus::{Bus, Code, Direction};
-use core465::Core;
+use bus::{Bus, Direction};
+use core465::{Core, IllegalDeed};
 use cpu::deed::{Deed, Loading, Privileged, Storing};
-use interrupt::{Cause, DataAccess, ProgramFault};
+use interrupt::{Cause, DataAccess, DataKind, ProgramFault};
 use isa::decode;
 use isa::instruction::Instruction;
-use pages::{Access, Translation};
+use pages::{Access, PageFault};
+
+/// Why an instruction is not done. No register has changed then, and nothing on the bus.
+enum Stop {
+    /// An interrupt is to be taken.
+    Interrupt(Cause),
+    /// The bus denied an access.
+    BusFault(BusFault),
+}
+
+impl From<Cause> for Stop {
+    ghost from_gives = { λ cause s. s ≡ stop.Interrupt cause };
+
+    fn from(cause: Cause) -> Stop {
+        Stop::Interrupt(cause)
+    }
+}
+
+impl From<BusFault> for Stop {
+    ghost from_gives = { λ fault s. s ≡ stop.BusFault fault };
+
+    fn from(fault: BusFault) -> Stop {
+        Stop::BusFault(fault)
+    }
+}
+
+impl From<IllegalDeed> for Stop {
+    ghost from_gives = { λ _ s. s ≡ stop.Interrupt (Program Illegal) };
+
+    fn from(_error: IllegalDeed) -> Stop {
+        Stop::Interrupt(Cause::Program(ProgramFault::Illegal))
+    }
+}
 
 /// Whether an access of this width may stand at the address.
 fn aligned(address: u32, width: u32) -> bool
@@ -28,13 +63,13 @@ fn aligned(address: u32, width: u32) -> bool
 }
 
 /// What an access to data is for a page.
-fn access_of(access: DataAccess) -> Access
-    ensures { result ≡ access_of access }
+// No `From`: its impl would stand in the crate of one of the two types, which know nothing of each other.
+fn access_of(kind: DataKind) -> Access
+    ensures { result ≡ access_of kind }
 {
-    if access.store {
-        Access::Store
-    } else {
-        Access::Load
+    match kind {
+        DataKind::Load => Access::Load,
+        DataKind::Store => Access::Store,
     }
 }
 
@@ -42,158 +77,148 @@ fn access_of(access: DataAccess) -> Access
 fn find_instruction(core: &Core) -> Result<u64, Cause>
     ensures { result ≡ fetching (reach core.now Access.Fetch core.now.working.pc) }
 {
-    match core.translate(Access::Fetch, core.counter()) {
-        Translation::Miss => Err(Cause::InstructionTlbError),
-        Translation::Denied => Err(Cause::InstructionStorage),
-        Translation::Real(address) => Ok(address),
-    }
+    core.translate(Access::Fetch, core.counter())
+        .map_err(|fault| match fault {
+            PageFault::Miss => Cause::InstructionTlbError,
+            PageFault::Denied => Cause::InstructionStorage,
+        })
 }
 
 /// The real address of a load or a store, or the interrupt.
 fn find_data(core: &Core, access: DataAccess, width: u32) -> Result<u64, Cause>
     ensures { result ≡ goes (reach core.now) access width }
 {
-    match core.translate(access_of(access), access.effective) {
-        Translation::Miss => Err(Cause::DataTlbError(access)),
-        Translation::Denied => Err(Cause::DataStorage(access)),
-        Translation::Real(address) => {
-            if aligned(access.effective, width) {
-                Ok(address)
-            } else {
-                Err(Cause::Alignment(access))
-            }
-        }
+    let address = core
+        .translate(access_of(access.kind), access.effective)
+        .map_err(|fault| match fault {
+            PageFault::Miss => Cause::DataTlbError(access),
+            PageFault::Denied => Cause::DataStorage(access),
+        })?;
+    if !aligned(access.effective, width) {
+        return Err(Cause::Alignment(access));
     }
-}
-
-/// The answer for an access that the bus denied.
-fn denied(layer: Layer, direction: Direction, address: u64, width: u32, code: Code) -> Answer
-    ensures { result ≡ Answer.BusFault (record { layer = layer; address = address; width = width; direction = direction; code = code }) }
-{
-    Answer::BusFault(BusFault {
-        layer,
-        address,
-        width,
-        direction,
-        code,
-    })
-}
-
-/// Takes an interrupt.
-fn interrupt(core: &mut Core, cause: Cause) -> Answer
-    ensures { (m : Model) → outcome result core.new m ≡ enacted (state_of core.old m) (leaves cause) }
-{
-    Answer::Interrupt(core.interrupt(cause))
+    Ok(address)
 }
 
 /// Makes a load.
-fn load<B: Bus>(core: &mut Core, bus: &B, loading: Loading) -> Answer
-    ensures { outcome result core.new (B.Bus.model bus.now) ≡ enacted (state_of core.old (B.Bus.model bus.now)) (carries (seen core.old) (reach core.old) (B.Bus.model bus.now) (loads loading core.old.working)) }
+fn load<B: Bus>(core: &mut Core, bus: &B, loading: Loading) -> Result<Option<Stored>, Stop>
+    ensures { finished result (state_of core.new (B.Bus.model bus.now)) ≡ enacted (state_of core.old (B.Bus.model bus.now)) (carries (seen core.old) (reach core.old) (B.Bus.model bus.now) (loads loading core.old.working)) }
 {
     let access = DataAccess {
         effective: loading.address,
-        store: false,
+        kind: DataKind::Load,
     };
     let width = loading.width;
-    match find_data(core, access, width) {
-        Ok(address) => match bus.read(address, width) {
-            Ok(value) => {
-                core.receive(loading, value);
-                Answer::Done(None)
-            }
-            Err(code) => denied(Layer::Data, Direction::Read, address, width, code),
-        },
-        Err(cause) => interrupt(core, cause),
-    }
+    let address = find_data(core, access, width)?;
+    let value = bus.read(address, width).map_err(|code| BusFault {
+        layer: Layer::Data,
+        address,
+        width,
+        direction: Direction::Read,
+        code,
+    })?;
+    core.receive(loading, value);
+    Ok(None)
 }
 
 /// Makes a store.
-fn store<B: Bus>(core: &mut Core, bus: &mut B, storing: Storing) -> Answer
-    ensures { outcome result core.new (B.Bus.model bus.new) ≡ enacted (state_of core.old (B.Bus.model bus.old)) (carries (seen core.old) (reach core.old) (B.Bus.model bus.old) (stores storing core.old.working)) }
+fn store<B: Bus>(core: &mut Core, bus: &mut B, storing: Storing) -> Result<Option<Stored>, Stop>
+    ensures { finished result (state_of core.new (B.Bus.model bus.new)) ≡ enacted (state_of core.old (B.Bus.model bus.old)) (carries (seen core.old) (reach core.old) (B.Bus.model bus.old) (stores storing core.old.working)) }
 {
     let access = DataAccess {
         effective: storing.address,
-        store: true,
+        kind: DataKind::Store,
     };
     let Storing { width, value, .. } = storing;
-    match find_data(core, access, width) {
-        Ok(address) => match bus.write(address, width, value) {
-            Ok(()) => {
-                core.conclude(storing);
-                Answer::Done(Some(Stored {
-                    address,
-                    width,
-                    value,
-                }))
-            }
-            Err(code) => denied(Layer::Data, Direction::Write, address, width, code),
-        },
-        Err(cause) => interrupt(core, cause),
-    }
+    let address = find_data(core, access, width)?;
+    bus.write(address, width, value).map_err(|code| BusFault {
+        layer: Layer::Data,
+        address,
+        width,
+        direction: Direction::Write,
+        code,
+    })?;
+    core.conclude(storing);
+    Ok(Some(Stored {
+        address,
+        width,
+        value,
+    }))
 }
 
 /// A conditional store without a reservation: a store's match, right and alignment, and no bus.
-fn try_store(core: &mut Core, address: u32) -> Answer
-    ensures { (m : Model) → outcome result core.new m ≡ enacted (state_of core.old m) (carries (seen core.old) (reach core.old) m (probe address 4 (settled false core.old.working))) }
+fn try_store(core: &mut Core, address: u32) -> Result<Option<Stored>, Stop>
+    ensures { (m : Model) → finished result (state_of core.new m) ≡ enacted (state_of core.old m) (carries (seen core.old) (reach core.old) m (probe address 4 (settled false core.old.working))) }
 {
     let access = DataAccess {
         effective: address,
-        store: true,
+        kind: DataKind::Store,
     };
-    match find_data(core, access, 4) {
-        Ok(_) => {
-            core.settle(false);
-            Answer::Done(None)
-        }
-        Err(cause) => interrupt(core, cause),
-    }
+    find_data(core, access, 4)?;
+    core.settle(false);
+    Ok(None)
 }
 
 /// A privileged deed, which user state may not do.
-fn carry_out(core: &mut Core, deed: Privileged) -> Answer
-    ensures { (m : Model) → outcome result core.new m ≡ enacted (state_of core.old m) (permits (seen core.old) deed) }
+fn carry_out(core: &mut Core, deed: Privileged) -> Result<Option<Stored>, Stop>
+    ensures { (m : Model) → finished result (state_of core.new m) ≡ enacted (state_of core.old m) (permits (seen core.old) deed) }
 {
     if core.user() {
-        return interrupt(core, Cause::Program(ProgramFault::Privileged));
+        return Err(Stop::Interrupt(Cause::Program(ProgramFault::Privileged)));
     }
-    if core.carry_out(deed) {
-        Answer::Done(None)
-    } else {
-        interrupt(core, Cause::Program(ProgramFault::Illegal))
-    }
+    core.carry_out(deed)?;
+    Ok(None)
 }
 
-/// Carries out an instruction.
-fn execute<B: Bus>(core: &mut Core, bus: &mut B, instruction: Instruction) -> Answer
-    ensures { outcome result core.new (B.Bus.model bus.new) ≡ enacted (state_of core.old (B.Bus.model bus.old)) (carries (seen core.old) (reach core.old) (B.Bus.model bus.old) (effect instruction (seen core.old))) }
+/// Carries out an instruction, and answers the store that it made, if it made one.
+fn execute<B: Bus>(
+    core: &mut Core,
+    bus: &mut B,
+    instruction: Instruction,
+) -> Result<Option<Stored>, Stop>
+    ensures { finished result (state_of core.new (B.Bus.model bus.new)) ≡ enacted (state_of core.old (B.Bus.model bus.old)) (carries (seen core.old) (reach core.old) (B.Bus.model bus.old) (effect instruction (seen core.old))) }
 {
     match core.perform(instruction) {
-        Deed::Finished => Answer::Done(None),
+        Deed::Finished => Ok(None),
         Deed::Load(loading) => load(core, bus, loading),
         Deed::Store(storing) => store(core, bus, storing),
         Deed::Probe { address } => try_store(core, address),
-        Deed::Trap => interrupt(core, Cause::Program(ProgramFault::Trap)),
-        Deed::Call => interrupt(core, Cause::SystemCall),
-        Deed::Illegal => interrupt(core, Cause::Program(ProgramFault::Illegal)),
+        Deed::Trap => Err(Stop::Interrupt(Cause::Program(ProgramFault::Trap))),
+        Deed::Call => Err(Stop::Interrupt(Cause::SystemCall)),
+        Deed::Illegal => Err(Stop::Interrupt(Cause::Program(ProgramFault::Illegal))),
         Deed::Privileged(deed) => carry_out(core, deed),
     }
 }
 
+/// The instruction at the counter, unless an external interrupt is due.
+#[tactic(auto, unfolding(crate::specs::Plans::planned, crate::specs::Steps::stepped))]
+fn go_on<B: Bus>(core: &mut Core, bus: &mut B) -> Result<Option<Stored>, Stop>
+    ensures { finished result (state_of core.new (B.Bus.model bus.new)) ≡ stepped (state_of core.old (B.Bus.model bus.old)) }
+{
+    if core.external() {
+        return Err(Stop::Interrupt(Cause::ExternalInput));
+    }
+    let address = find_instruction(core)?;
+    let word = bus.read(address, 4).map_err(|code| BusFault {
+        layer: Layer::Fetch,
+        address,
+        width: 4,
+        direction: Direction::Read,
+        code,
+    })?;
+    let instruction = decode(word).ok_or(Cause::Program(ProgramFault::Illegal))?;
+    execute(core, bus, instruction)
+}
+
 /// One step: an external interrupt that is due, or the instruction at the counter.
+// A core and its bus are two parameters, and no struct: a hold lends its core, and the bus is another's.
+#[tactic(auto, unfolding(crate::specs::Steps::interrupting))]
 pub fn step<B: Bus>(core: &mut Core, bus: &mut B) -> Answer
     ensures { outcome result core.new (B.Bus.model bus.new) ≡ stepped (state_of core.old (B.Bus.model bus.old)) }
 {
-    if core.external() {
-        return interrupt(core, Cause::ExternalInput);
-    }
-    match find_instruction(core) {
-        Ok(address) => match bus.read(address, 4) {
-            Ok(word) => match decode(word) {
-                Some(instruction) => execute(core, bus, instruction),
-                None => interrupt(core, Cause::Program(ProgramFault::Illegal)),
-            },
-            Err(code) => denied(Layer::Fetch, Direction::Read, address, 4, code),
-        },
-        Err(cause) => interrupt(core, cause),
+    match go_on(core, bus) {
+        Ok(stored) => Answer::Done(stored),
+        Err(Stop::Interrupt(cause)) => Answer::Interrupt(core.interrupt(cause)),
+        Err(Stop::BusFault(fault)) => Answer::BusFault(fault),
     }
 }

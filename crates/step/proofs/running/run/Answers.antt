@@ -1,29 +1,41 @@
-use Rattle.std.proofs.Common.{◌≡◌, ◌-◌, false, sym, ap, ◌∙◌, arith}
+use Rattle.std.proofs.Common.{◌≡◌, ◌-◌, false, sym, refl, ap, ◌∙◌, arith}
 use Rattle.std.proofs.lemmas.Bool.Decides.{nat_tests}
 use Rattle.step.specs.Steps.{outcome, state_of}
-use Rattle.step.specs.Runs.{ended, bad_count, ran_on}
+use Rattle.step.specs.Runs.{bad_count, ran_on}
 use Rattle.step.proofs.Counting.{stops, lasts, goes_on, begins}
 use Rattle.step.proofs.running.run.Goals as goal
-use Rattle.step.proofs.running.run.Goals.{then-steps-n-via-then-steps-n, then-steps-n-via-else-steps-n+then-ends}
 
-pub returns-then-steps-n : goal.returns-then-steps-n
-returns-then-steps-n g c =
-    let x = outcome c.step-last.result c.step-last.new.core (g.B.Bus.model c.step-last.new.bus) in
-    let i = c.loop-steps.steps in
-    let fine : bad_count c.args.n ≡ false = grind (arith, nat_tests) in
-    let last : ran_on (c.args.n - i) i x ≡ ended i x = elim c.then-steps-n.branch [
-      | then-steps-n-via-then-steps-n w ↦ lasts c.args.n i x (omega arith)
-      | then-steps-n-via-else-steps-n+then-ends w ↦ stops (c.args.n - i) i x (sym w.if-ends.ensures)
-    ] in
-    sym last ∙ ap (ran_on (c.args.n - i) i) c.step-last.ensures ∙ c.loop-steps.invariant.2
-    ∙ begins c.args.n (state_of c.args.core.now (g.B.Bus.model c.args.bus.now)) fine
+pub loop-steps-init : goal.loop-steps-init
+loop-steps-init g c =
+    let n = c.args.n in
+    let fine : bad_count n ≡ false = grind (arith, nat_tests) in
+    (refl, ap (ran_on (n - 1) 1) c.step.ensures ∙ begins n (state_of c.args.core.now (g.B.Bus.model c.args.bus.now)) fine)
 
 pub loop-steps-preserved : goal.loop-steps-preserved
 loop-steps-preserved g c =
-    let x = outcome c.step-last.result c.step-last.new.core (g.B.Bus.model c.step-last.new.bus) in
-    let i = c.loop-steps.steps in (
-      omega arith,
-      omega arith,
-      sym (goes_on c.args.n i x (omega arith) (sym c.if-ends.ensures)) ∙ ap (ran_on (c.args.n - i) i) c.step-last.ensures
-          ∙ c.loop-steps.invariant.2,
+    let l = c.loop-steps in
+    let x = outcome l.ran.last l.core (g.B.Bus.model l.bus) in (
+      refl,
+      goes_on c.args.n l.ran.steps l.steps x _ l.invariant.0 c.loop-steps-test.true (sym c.if-ends.ensures) c.step-in-loop-steps.ensures ∙ l.invariant.1,
     )
+
+pub returns-else-n-gt-MOST_STEPS : goal.returns-else-n-gt-MOST_STEPS
+returns-else-n-gt-MOST_STEPS g c =
+    let l = c.loop-steps in
+    let e = l.invariant.0 in
+    sym (lasts c.args.n l.ran.steps (outcome l.ran.last l.core (g.B.Bus.model l.bus)) (omega arith)) ∙ l.invariant.1
+
+pub returns-then-ends : goal.returns-then-ends
+returns-then-ends g c =
+    let l = c.loop-steps in
+    sym (stops (c.args.n - l.ran.steps) l.ran.steps (outcome l.ran.last l.core (g.B.Bus.model l.bus)) (sym c.if-ends.ensures)) ∙ l.invariant.1
+
+pub returns-else-ends : goal.returns-else-ends
+returns-else-ends g c =
+    let l = c.loop-steps in
+    let x = outcome l.ran.last l.core (g.B.Bus.model l.bus) in
+    let s = c.step-in-loop-steps in
+    let y = outcome s.result s.new.core (g.B.Bus.model s.new.bus) in
+    sym (lasts c.args.n l.steps y (omega arith))
+    ∙ goes_on c.args.n l.ran.steps l.steps x y l.invariant.0 c.loop-steps-test.true (sym c.if-ends.ensures) s.ensures
+    ∙ l.invariant.1
