@@ -53,220 +53,263 @@ fn indexed(offset: Offset) -> &'static str {
     }
 }
 
+/// An operation, which has a name: its mnemonic without what flags add.
+trait Named {
+    fn name(self) -> &'static str;
+}
+
 impl Mnemonic {
     /// The mnemonic of an instruction.
     pub fn of(instruction: Instruction) -> Mnemonic {
         match instruction {
-            Instruction::Immediate(i) => plain(immediate(i.op)),
-            Instruction::LogicalImmediate(i) => plain(logical_immediate(i.op)),
-            Instruction::CompareImmediate(i) => flagged(compare(i.comparison), "i", ""),
+            Instruction::Immediate(i) => plain(i.op.name()),
+            Instruction::LogicalImmediate(i) => plain(i.op.name()),
+            Instruction::CompareImmediate(i) => flagged(i.comparison.name(), "i", ""),
             Instruction::TrapImmediate(_) => plain("twi"),
-            Instruction::Load(i) => flagged(load(i.op), mark(i.update, "u"), indexed(i.offset)),
-            Instruction::Store(i) => flagged(store(i.op), mark(i.update, "u"), indexed(i.offset)),
+            Instruction::Load(i) => flagged(i.op.name(), mark(i.update, "u"), indexed(i.offset)),
+            Instruction::Store(i) => flagged(i.op.name(), mark(i.update, "u"), indexed(i.offset)),
             Instruction::Branch(i) => branching("b", i.link, i.absolute),
             Instruction::BranchConditional(i) => branching("bc", i.link, i.absolute),
-            Instruction::BranchRegister(i) => branching(branch(i.target), i.link, false),
+            Instruction::BranchRegister(i) => branching(i.target.name(), i.link, false),
             Instruction::SystemCall => plain("sc"),
-            Instruction::Rotate(i) => computing(rotate(i.op), false, i.rc),
-            Instruction::ConditionLogical(i) => plain(condition(i.op)),
+            Instruction::Rotate(i) => computing(i.op.name(), false, i.rc),
+            Instruction::ConditionLogical(i) => plain(i.op.name()),
             Instruction::MoveConditionField(_) => plain("mcrf"),
-            Instruction::Bare { op } => plain(bare(op)),
-            Instruction::Arithmetic(i) => computing(arithmetic(i.op), i.oe, i.rc),
-            Instruction::ArithmeticUnary(i) => computing(arithmetic_unary(i.op), i.oe, i.rc),
-            Instruction::MultiplyHigh(i) => computing(multiply_high(i.op), false, i.rc),
-            Instruction::Logical(i) => computing(logical(i.op), false, i.rc),
-            Instruction::LogicalUnary(i) => computing(logical_unary(i.op), false, i.rc),
+            Instruction::Bare { op } => plain(op.name()),
+            Instruction::Arithmetic(i) => computing(i.op.name(), i.oe, i.rc),
+            Instruction::ArithmeticUnary(i) => computing(i.op.name(), i.oe, i.rc),
+            Instruction::MultiplyHigh(i) => computing(i.op.name(), false, i.rc),
+            Instruction::Logical(i) => computing(i.op.name(), false, i.rc),
+            Instruction::LogicalUnary(i) => computing(i.op.name(), false, i.rc),
             Instruction::ShiftRightImmediate(i) => computing("srawi", false, i.rc),
             Instruction::Select(_) => plain("isel"),
-            Instruction::Compare(i) => plain(compare(i.comparison)),
+            Instruction::Compare(i) => plain(i.comparison.name()),
             Instruction::Trap(_) => plain("tw"),
-            Instruction::LoadIndexed(i) => plain(load_indexed(i.op)),
-            Instruction::StoreIndexed(i) => plain(store_indexed(i.op)),
+            Instruction::LoadIndexed(i) => plain(i.op.name()),
+            Instruction::StoreIndexed(i) => plain(i.op.name()),
             Instruction::StoreConditional(_) => plain("stwcx."),
             Instruction::MoveFromXer { .. } => plain("mcrxr"),
-            Instruction::Move(i) => plain(moved(i.op)),
+            Instruction::Move(i) => plain(i.op.name()),
             Instruction::WriteExternalEnable { .. } => plain("wrteei"),
             Instruction::MoveToConditionFields(_) => plain("mtcrf"),
-            Instruction::MoveSpecial(i) => plain(special(i.op)),
-            Instruction::TlbWord(i) => plain(tlb_word(i.op)),
+            Instruction::MoveSpecial(i) => plain(i.op.name()),
+            Instruction::TlbWord(i) => plain(i.op.name()),
             Instruction::TlbSearch(i) => computing("tlbsx", false, i.rc),
             Instruction::Barrier { .. } => plain("mbar"),
         }
     }
 }
 
-fn immediate(op: ImmediateOp) -> &'static str {
-    match op {
-        ImmediateOp::Addi => "addi",
-        ImmediateOp::Addis => "addis",
-        ImmediateOp::Addic => "addic",
-        ImmediateOp::AddicRecord => "addic.",
-        ImmediateOp::Subfic => "subfic",
-        ImmediateOp::Mulli => "mulli",
+impl Named for ImmediateOp {
+    fn name(self) -> &'static str {
+        match self {
+            ImmediateOp::Addi => "addi",
+            ImmediateOp::Addis => "addis",
+            ImmediateOp::Addic => "addic",
+            ImmediateOp::AddicRecord => "addic.",
+            ImmediateOp::Subfic => "subfic",
+            ImmediateOp::Mulli => "mulli",
+        }
     }
 }
 
-fn logical_immediate(op: LogicalImmediateOp) -> &'static str {
-    match op {
-        LogicalImmediateOp::AndiRecord => "andi.",
-        LogicalImmediateOp::AndisRecord => "andis.",
-        LogicalImmediateOp::Ori => "ori",
-        LogicalImmediateOp::Oris => "oris",
-        LogicalImmediateOp::Xori => "xori",
-        LogicalImmediateOp::Xoris => "xoris",
+impl Named for LogicalImmediateOp {
+    fn name(self) -> &'static str {
+        match self {
+            LogicalImmediateOp::AndiRecord => "andi.",
+            LogicalImmediateOp::AndisRecord => "andis.",
+            LogicalImmediateOp::Ori => "ori",
+            LogicalImmediateOp::Oris => "oris",
+            LogicalImmediateOp::Xori => "xori",
+            LogicalImmediateOp::Xoris => "xoris",
+        }
     }
 }
 
-fn compare(op: Comparison) -> &'static str {
-    match op {
-        Comparison::Signed => "cmp",
-        Comparison::Unsigned => "cmpl",
+impl Named for Comparison {
+    fn name(self) -> &'static str {
+        match self {
+            Comparison::Signed => "cmp",
+            Comparison::Unsigned => "cmpl",
+        }
     }
 }
 
-fn load(op: LoadOp) -> &'static str {
-    match op {
-        LoadOp::Lbz => "lbz",
-        LoadOp::Lhz => "lhz",
-        LoadOp::Lha => "lha",
-        LoadOp::Lwz => "lwz",
+impl Named for LoadOp {
+    fn name(self) -> &'static str {
+        match self {
+            LoadOp::Lbz => "lbz",
+            LoadOp::Lhz => "lhz",
+            LoadOp::Lha => "lha",
+            LoadOp::Lwz => "lwz",
+        }
     }
 }
 
-fn store(op: StoreOp) -> &'static str {
-    match op {
-        StoreOp::Stb => "stb",
-        StoreOp::Sth => "sth",
-        StoreOp::Stw => "stw",
+impl Named for StoreOp {
+    fn name(self) -> &'static str {
+        match self {
+            StoreOp::Stb => "stb",
+            StoreOp::Sth => "sth",
+            StoreOp::Stw => "stw",
+        }
     }
 }
 
-fn branch(op: BranchTarget) -> &'static str {
-    match op {
-        BranchTarget::Link => "bclr",
-        BranchTarget::Count => "bcctr",
+impl Named for BranchTarget {
+    fn name(self) -> &'static str {
+        match self {
+            BranchTarget::Link => "bclr",
+            BranchTarget::Count => "bcctr",
+        }
     }
 }
 
-fn rotate(op: RotateOp) -> &'static str {
-    match op {
-        RotateOp::Rlwimi => "rlwimi",
-        RotateOp::Rlwinm => "rlwinm",
-        RotateOp::Rlwnm => "rlwnm",
+impl Named for RotateOp {
+    fn name(self) -> &'static str {
+        match self {
+            RotateOp::Rlwimi => "rlwimi",
+            RotateOp::Rlwinm => "rlwinm",
+            RotateOp::Rlwnm => "rlwnm",
+        }
     }
 }
 
-fn condition(op: ConditionOp) -> &'static str {
-    match op {
-        ConditionOp::Crand => "crand",
-        ConditionOp::Crandc => "crandc",
-        ConditionOp::Creqv => "creqv",
-        ConditionOp::Crnand => "crnand",
-        ConditionOp::Crnor => "crnor",
-        ConditionOp::Cror => "cror",
-        ConditionOp::Crorc => "crorc",
-        ConditionOp::Crxor => "crxor",
+impl Named for ConditionOp {
+    fn name(self) -> &'static str {
+        match self {
+            ConditionOp::Crand => "crand",
+            ConditionOp::Crandc => "crandc",
+            ConditionOp::Creqv => "creqv",
+            ConditionOp::Crnand => "crnand",
+            ConditionOp::Crnor => "crnor",
+            ConditionOp::Cror => "cror",
+            ConditionOp::Crorc => "crorc",
+            ConditionOp::Crxor => "crxor",
+        }
     }
 }
 
-fn bare(op: BareOp) -> &'static str {
-    match op {
-        BareOp::Rfi => "rfi",
-        BareOp::Isync => "isync",
-        BareOp::Msync => "msync",
-        BareOp::Tlbsync => "tlbsync",
+impl Named for BareOp {
+    fn name(self) -> &'static str {
+        match self {
+            BareOp::Rfi => "rfi",
+            BareOp::Isync => "isync",
+            BareOp::Msync => "msync",
+            BareOp::Tlbsync => "tlbsync",
+        }
     }
 }
 
-fn arithmetic(op: ArithmeticOp) -> &'static str {
-    match op {
-        ArithmeticOp::Add => "add",
-        ArithmeticOp::Addc => "addc",
-        ArithmeticOp::Adde => "adde",
-        ArithmeticOp::Subf => "subf",
-        ArithmeticOp::Subfc => "subfc",
-        ArithmeticOp::Subfe => "subfe",
-        ArithmeticOp::Mullw => "mullw",
-        ArithmeticOp::Divw => "divw",
-        ArithmeticOp::Divwu => "divwu",
+impl Named for ArithmeticOp {
+    fn name(self) -> &'static str {
+        match self {
+            ArithmeticOp::Add => "add",
+            ArithmeticOp::Addc => "addc",
+            ArithmeticOp::Adde => "adde",
+            ArithmeticOp::Subf => "subf",
+            ArithmeticOp::Subfc => "subfc",
+            ArithmeticOp::Subfe => "subfe",
+            ArithmeticOp::Mullw => "mullw",
+            ArithmeticOp::Divw => "divw",
+            ArithmeticOp::Divwu => "divwu",
+        }
     }
 }
 
-fn arithmetic_unary(op: ArithmeticUnaryOp) -> &'static str {
-    match op {
-        ArithmeticUnaryOp::Addme => "addme",
-        ArithmeticUnaryOp::Addze => "addze",
-        ArithmeticUnaryOp::Subfme => "subfme",
-        ArithmeticUnaryOp::Subfze => "subfze",
-        ArithmeticUnaryOp::Neg => "neg",
+impl Named for ArithmeticUnaryOp {
+    fn name(self) -> &'static str {
+        match self {
+            ArithmeticUnaryOp::Addme => "addme",
+            ArithmeticUnaryOp::Addze => "addze",
+            ArithmeticUnaryOp::Subfme => "subfme",
+            ArithmeticUnaryOp::Subfze => "subfze",
+            ArithmeticUnaryOp::Neg => "neg",
+        }
     }
 }
 
-fn multiply_high(op: MultiplyHighOp) -> &'static str {
-    match op {
-        MultiplyHighOp::Mulhw => "mulhw",
-        MultiplyHighOp::Mulhwu => "mulhwu",
+impl Named for MultiplyHighOp {
+    fn name(self) -> &'static str {
+        match self {
+            MultiplyHighOp::Mulhw => "mulhw",
+            MultiplyHighOp::Mulhwu => "mulhwu",
+        }
     }
 }
 
-fn logical(op: LogicalOp) -> &'static str {
-    match op {
-        LogicalOp::And => "and",
-        LogicalOp::Andc => "andc",
-        LogicalOp::Nand => "nand",
-        LogicalOp::Or => "or",
-        LogicalOp::Orc => "orc",
-        LogicalOp::Nor => "nor",
-        LogicalOp::Xor => "xor",
-        LogicalOp::Eqv => "eqv",
-        LogicalOp::Slw => "slw",
-        LogicalOp::Srw => "srw",
-        LogicalOp::Sraw => "sraw",
+impl Named for LogicalOp {
+    fn name(self) -> &'static str {
+        match self {
+            LogicalOp::And => "and",
+            LogicalOp::Andc => "andc",
+            LogicalOp::Nand => "nand",
+            LogicalOp::Or => "or",
+            LogicalOp::Orc => "orc",
+            LogicalOp::Nor => "nor",
+            LogicalOp::Xor => "xor",
+            LogicalOp::Eqv => "eqv",
+            LogicalOp::Slw => "slw",
+            LogicalOp::Srw => "srw",
+            LogicalOp::Sraw => "sraw",
+        }
     }
 }
 
-fn logical_unary(op: LogicalUnaryOp) -> &'static str {
-    match op {
-        LogicalUnaryOp::Extsb => "extsb",
-        LogicalUnaryOp::Extsh => "extsh",
-        LogicalUnaryOp::Cntlzw => "cntlzw",
+impl Named for LogicalUnaryOp {
+    fn name(self) -> &'static str {
+        match self {
+            LogicalUnaryOp::Extsb => "extsb",
+            LogicalUnaryOp::Extsh => "extsh",
+            LogicalUnaryOp::Cntlzw => "cntlzw",
+        }
     }
 }
 
-fn load_indexed(op: LoadIndexedOp) -> &'static str {
-    match op {
-        LoadIndexedOp::Lhbrx => "lhbrx",
-        LoadIndexedOp::Lwbrx => "lwbrx",
-        LoadIndexedOp::Lwarx => "lwarx",
+impl Named for LoadIndexedOp {
+    fn name(self) -> &'static str {
+        match self {
+            LoadIndexedOp::Lhbrx => "lhbrx",
+            LoadIndexedOp::Lwbrx => "lwbrx",
+            LoadIndexedOp::Lwarx => "lwarx",
+        }
     }
 }
 
-fn store_indexed(op: StoreIndexedOp) -> &'static str {
-    match op {
-        StoreIndexedOp::Sthbrx => "sthbrx",
-        StoreIndexedOp::Stwbrx => "stwbrx",
+impl Named for StoreIndexedOp {
+    fn name(self) -> &'static str {
+        match self {
+            StoreIndexedOp::Sthbrx => "sthbrx",
+            StoreIndexedOp::Stwbrx => "stwbrx",
+        }
     }
 }
 
-fn moved(op: MoveOp) -> &'static str {
-    match op {
-        MoveOp::Mfcr => "mfcr",
-        MoveOp::Mfmsr => "mfmsr",
-        MoveOp::Mtmsr => "mtmsr",
-        MoveOp::Wrtee => "wrtee",
+impl Named for MoveOp {
+    fn name(self) -> &'static str {
+        match self {
+            MoveOp::Mfcr => "mfcr",
+            MoveOp::Mfmsr => "mfmsr",
+            MoveOp::Mtmsr => "mtmsr",
+            MoveOp::Wrtee => "wrtee",
+        }
     }
 }
 
-fn special(op: SpecialOp) -> &'static str {
-    match op {
-        SpecialOp::Mfspr => "mfspr",
-        SpecialOp::Mtspr => "mtspr",
+impl Named for SpecialOp {
+    fn name(self) -> &'static str {
+        match self {
+            SpecialOp::Mfspr => "mfspr",
+            SpecialOp::Mtspr => "mtspr",
+        }
     }
 }
 
-fn tlb_word(op: TlbWordOp) -> &'static str {
-    match op {
-        TlbWordOp::Tlbre => "tlbre",
-        TlbWordOp::Tlbwe => "tlbwe",
+impl Named for TlbWordOp {
+    fn name(self) -> &'static str {
+        match self {
+            TlbWordOp::Tlbre => "tlbre",
+            TlbWordOp::Tlbwe => "tlbwe",
+        }
     }
 }

@@ -1,8 +1,11 @@
 //! The operands of instructions.
+ghost use Rattle.std.specs.Prelude.{◌<◌, ◌≤◌};
+
 use isa::instruction::*;
 use std::fmt;
+use word::sign::extend;
 
-/// An operand. A number with a sign, an address and a distance are words of 32 bits.
+/// An operand.
 #[derive(Clone, Copy)]
 pub enum Operand {
     /// A general register.
@@ -12,13 +15,13 @@ pub enum Operand {
     /// A number without a sign.
     Number(u32),
     /// A number with a sign.
-    Signed(u32),
+    Signed(i32),
     /// A displacement with a sign, and the base that it is added to.
-    Memory(u32, u32),
+    Memory(i32, u32),
     /// The address that a branch goes to.
     Address(u32),
     /// The distance in bytes, with a sign, from a branch to its target.
-    Distance(u32),
+    Distance(i32),
 }
 
 use Operand::{Address, Base, Distance, Gpr, Memory, Number, Signed};
@@ -29,18 +32,14 @@ impl fmt::Display for Operand {
             Gpr(number) => write!(f, "r{number}"),
             Base(number) => base(f, number),
             Number(number) => write!(f, "{number}"),
-            Signed(number) => signed(f, "", number),
+            Signed(number) => write!(f, "{number}"),
             Memory(displacement, number) => {
-                signed(f, "", displacement)?;
-                write!(f, "(")?;
+                write!(f, "{displacement}(")?;
                 base(f, number)?;
                 write!(f, ")")
             }
             Address(address) => write!(f, "0x{address:08X}"),
-            Distance(distance) => {
-                write!(f, ".")?;
-                signed(f, "+", distance)
-            }
+            Distance(distance) => write!(f, ".{distance:+}"),
         }
     }
 }
@@ -54,76 +53,55 @@ fn base<W: fmt::Write>(f: &mut fmt::Formatter<W>, number: u32) -> fmt::Result {
     }
 }
 
-/// Writes a word of 32 bits as a number with a sign, which is `plus` where it is not negative.
-fn signed<W: fmt::Write>(f: &mut fmt::Formatter<W>, plus: &str, number: u32) -> fmt::Result {
-    if number < 0x8000_0000 {
-        write!(f, "{plus}{number}")
-    } else {
-        write!(f, "-{}", number.wrapping_neg())
-    }
-}
-
-/// A field with its sign extended to 32 bits; the field's sign bit counts for `half`.
-fn extended(field: u32, half: u32) -> u32 {
-    if field < half {
-        field
-    } else {
-        field.wrapping_sub(half).wrapping_sub(half)
-    }
+/// A field of 16 bits with its sign.
+fn short(field: u32) -> i32 {
+    extend::<16>(field).cast_signed()
 }
 
 /// A field of 16 bits as a number with a sign.
 fn immediate(field: u32) -> Operand {
-    Signed(extended(field, 0x8000))
+    Signed(short(field))
 }
 
-/// The target of a branch, from a field that counts words and whose sign bit counts for `half`.
-fn target(displacement: u32, half: u32, absolute: bool) -> Operand {
-    let bytes = extended(displacement, half).wrapping_mul(4);
+/// The target of a branch, from a field of `BITS` bits that counts words.
+fn target<const BITS: u32>(displacement: u32, absolute: bool) -> Operand
+    requires some { 0 < BITS }
+    requires fits { BITS ≤ 32 }
+{
+    let bytes = extend::<BITS>(displacement).wrapping_mul(4);
     if absolute {
         Address(bytes)
     } else {
-        Distance(bytes)
+        Distance(bytes.cast_signed())
     }
 }
 
-/// The operands of an instruction, in their order.
-#[derive(Clone, Copy)]
-pub enum Operands {
-    Zero,
-    One(Operand),
-    Two(Operand, Operand),
-    Three(Operand, Operand, Operand),
-    Four(Operand, Operand, Operand, Operand),
-    Five(Operand, Operand, Operand, Operand, Operand),
-}
-
-use Operands::{Five, Four, One, Three, Two, Zero};
-
-impl fmt::Display for Operands {
-    fn fmt<W: fmt::Write>(&self, f: &mut fmt::Formatter<W>) -> fmt::Result {
-        match *self {
-            Zero => Ok(()),
-            One(a) => write!(f, " {a}"),
-            Two(a, b) => write!(f, " {a},{b}"),
-            Three(a, b, c) => write!(f, " {a},{b},{c}"),
-            Four(a, b, c, d) => write!(f, " {a},{b},{c},{d}"),
-            Five(a, b, c, d, e) => write!(f, " {a},{b},{c},{d},{e}"),
-        }
+/// Writes operands, with a space before the first and a comma before each other.
+fn list<W: fmt::Write>(f: &mut fmt::Formatter<W>, operands: &[Operand]) -> fmt::Result {
+    let mut mark = " ";
+    for operand in operands {
+        write!(f, "{mark}{operand}")?;
+        mark = ",";
     }
+    Ok(())
 }
 
-/// The operands of a load or a store: the register, and the base with its offset.
-fn access(register: u32, base: u32, offset: Offset) -> Operands {
+/// Writes the operands of a load or a store: the register, and the base with its offset.
+fn access<W: fmt::Write>(
+    f: &mut fmt::Formatter<W>,
+    register: u32,
+    base: u32,
+    offset: Offset,
+) -> fmt::Result {
     match offset {
-        Offset::Displacement(d) => Two(Gpr(register), Memory(extended(d, 0x8000), base)),
-        Offset::Index(rb) => indexed(register, base, rb),
+        Offset::Displacement(d) => list(f, &[Gpr(register), Memory(short(d), base)]),
+        Offset::Index(rb) => list(f, &indexed(register, base, rb)),
     }
 }
 
 /// The operands of an instruction that adds an index to a base.
-fn indexed(register: u32, base: u32, index: u32) -> Operands {
-    Three(Gpr(register), Base(base), Gpr(index))
+fn indexed(register: u32, base: u32, index: u32) -> [Operand; 3] {
+    [Gpr(register), Base(base), Gpr(index)]
 }
 
 /// What an immediate is added to, subtracted from or multiplied by.
@@ -136,85 +114,83 @@ fn first_term(i: Immediate) -> Operand {
 }
 
 /// The operands of a comparison with an immediate, which has a sign where the comparison has one.
-fn compared(i: CompareImmediate) -> Operands {
+fn compared(i: CompareImmediate) -> [Operand; 4] {
     let value = match i.comparison {
         Comparison::Signed => immediate(i.immediate),
         Comparison::Unsigned => Number(i.immediate),
     };
-    Four(Number(i.field), Number(0), Gpr(i.ra), value)
+    [Number(i.field), Number(0), Gpr(i.ra), value]
 }
 
 /// The operands of a trap on an immediate.
-fn trapped(i: TrapImmediate) -> Operands {
-    Three(Number(i.conditions), Gpr(i.ra), immediate(i.immediate))
+fn trapped(i: TrapImmediate) -> [Operand; 3] {
+    [Number(i.conditions), Gpr(i.ra), immediate(i.immediate)]
 }
 
 /// The operands of a conditional branch.
-fn conditional(i: BranchConditional) -> Operands {
-    let target = target(i.displacement, 0x2000, i.absolute);
-    Three(Number(i.options), Number(i.bit), target)
+fn conditional(i: BranchConditional) -> [Operand; 3] {
+    let target = target::<14>(i.displacement, i.absolute);
+    [Number(i.options), Number(i.bit), target]
 }
 
 /// The operands of a rotation, whose amount is a number or a register.
-fn rotated(i: Rotate) -> Operands {
+fn rotated(i: Rotate) -> [Operand; 5] {
     let amount = match i.op {
         RotateOp::Rlwimi | RotateOp::Rlwinm => Number(i.amount),
         RotateOp::Rlwnm => Gpr(i.amount),
     };
-    Five(Gpr(i.ra), Gpr(i.rs), amount, Number(i.begin), Number(i.end))
+    [Gpr(i.ra), Gpr(i.rs), amount, Number(i.begin), Number(i.end)]
 }
 
 /// The operands of logic on bits of the condition register.
-fn combined(i: ConditionLogical) -> Operands {
-    Three(Number(i.target), Number(i.first), Number(i.second))
+fn combined(i: ConditionLogical) -> [Operand; 3] {
+    [Number(i.target), Number(i.first), Number(i.second)]
 }
 
 /// The operands of a move of a special purpose register: what is written stands first.
-fn moved(i: MoveSpecial) -> Operands {
+fn moved(i: MoveSpecial) -> [Operand; 2] {
     match i.op {
-        SpecialOp::Mfspr => Two(Gpr(i.register), Number(i.number)),
-        SpecialOp::Mtspr => Two(Number(i.number), Gpr(i.register)),
+        SpecialOp::Mfspr => [Gpr(i.register), Number(i.number)],
+        SpecialOp::Mtspr => [Number(i.number), Gpr(i.register)],
     }
 }
 
-impl Operands {
-    /// The operands of an instruction.
-    pub fn of(instruction: Instruction) -> Operands {
-        match instruction {
-            Instruction::Immediate(i) => Three(Gpr(i.rt), first_term(i), immediate(i.immediate)),
-            Instruction::LogicalImmediate(i) => Three(Gpr(i.ra), Gpr(i.rs), Number(i.immediate)),
-            Instruction::CompareImmediate(i) => compared(i),
-            Instruction::TrapImmediate(i) => trapped(i),
-            Instruction::Load(i) => access(i.rt, i.ra, i.offset),
-            Instruction::Store(i) => access(i.rs, i.ra, i.offset),
-            Instruction::Branch(i) => One(target(i.displacement, 0x80_0000, i.absolute)),
-            Instruction::BranchConditional(i) => conditional(i),
-            Instruction::BranchRegister(i) => Two(Number(i.options), Number(i.bit)),
-            Instruction::SystemCall => Zero,
-            Instruction::Rotate(i) => rotated(i),
-            Instruction::ConditionLogical(i) => combined(i),
-            Instruction::MoveConditionField(i) => Two(Number(i.to), Number(i.from)),
-            Instruction::Bare { .. } => Zero,
-            Instruction::Arithmetic(i) => Three(Gpr(i.rt), Gpr(i.ra), Gpr(i.rb)),
-            Instruction::ArithmeticUnary(i) => Two(Gpr(i.rt), Gpr(i.ra)),
-            Instruction::MultiplyHigh(i) => Three(Gpr(i.rt), Gpr(i.ra), Gpr(i.rb)),
-            Instruction::Logical(i) => Three(Gpr(i.ra), Gpr(i.rs), Gpr(i.rb)),
-            Instruction::LogicalUnary(i) => Two(Gpr(i.ra), Gpr(i.rs)),
-            Instruction::ShiftRightImmediate(i) => Three(Gpr(i.ra), Gpr(i.rs), Number(i.amount)),
-            Instruction::Select(i) => Four(Gpr(i.rt), Base(i.ra), Gpr(i.rb), Number(i.bit)),
-            Instruction::Compare(i) => Four(Number(i.field), Number(0), Gpr(i.ra), Gpr(i.rb)),
-            Instruction::Trap(i) => Three(Number(i.conditions), Gpr(i.ra), Gpr(i.rb)),
-            Instruction::LoadIndexed(i) => indexed(i.rt, i.ra, i.rb),
-            Instruction::StoreIndexed(i) => indexed(i.rs, i.ra, i.rb),
-            Instruction::StoreConditional(i) => indexed(i.rs, i.ra, i.rb),
-            Instruction::MoveFromXer { field } => One(Number(field)),
-            Instruction::Move(i) => One(Gpr(i.register)),
-            Instruction::WriteExternalEnable { enable } => One(Number(enable as u32)),
-            Instruction::MoveToConditionFields(i) => Two(Number(i.mask), Gpr(i.rs)),
-            Instruction::MoveSpecial(i) => moved(i),
-            Instruction::TlbWord(i) => Three(Gpr(i.register), Gpr(i.ra), Number(i.word)),
-            Instruction::TlbSearch(i) => indexed(i.rt, i.ra, i.rb),
-            Instruction::Barrier { ordering } => One(Number(ordering)),
-        }
+/// Writes the operands of an instruction, in their order.
+pub fn operands<W: fmt::Write>(f: &mut fmt::Formatter<W>, instruction: Instruction) -> fmt::Result {
+    match instruction {
+        Instruction::Immediate(i) => list(f, &[Gpr(i.rt), first_term(i), immediate(i.immediate)]),
+        Instruction::LogicalImmediate(i) => list(f, &[Gpr(i.ra), Gpr(i.rs), Number(i.immediate)]),
+        Instruction::CompareImmediate(i) => list(f, &compared(i)),
+        Instruction::TrapImmediate(i) => list(f, &trapped(i)),
+        Instruction::Load(i) => access(f, i.rt, i.ra, i.offset),
+        Instruction::Store(i) => access(f, i.rs, i.ra, i.offset),
+        Instruction::Branch(i) => list(f, &[target::<24>(i.displacement, i.absolute)]),
+        Instruction::BranchConditional(i) => list(f, &conditional(i)),
+        Instruction::BranchRegister(i) => list(f, &[Number(i.options), Number(i.bit)]),
+        Instruction::SystemCall => Ok(()),
+        Instruction::Rotate(i) => list(f, &rotated(i)),
+        Instruction::ConditionLogical(i) => list(f, &combined(i)),
+        Instruction::MoveConditionField(i) => list(f, &[Number(i.to), Number(i.from)]),
+        Instruction::Bare { .. } => Ok(()),
+        Instruction::Arithmetic(i) => list(f, &[Gpr(i.rt), Gpr(i.ra), Gpr(i.rb)]),
+        Instruction::ArithmeticUnary(i) => list(f, &[Gpr(i.rt), Gpr(i.ra)]),
+        Instruction::MultiplyHigh(i) => list(f, &[Gpr(i.rt), Gpr(i.ra), Gpr(i.rb)]),
+        Instruction::Logical(i) => list(f, &[Gpr(i.ra), Gpr(i.rs), Gpr(i.rb)]),
+        Instruction::LogicalUnary(i) => list(f, &[Gpr(i.ra), Gpr(i.rs)]),
+        Instruction::ShiftRightImmediate(i) => list(f, &[Gpr(i.ra), Gpr(i.rs), Number(i.amount)]),
+        Instruction::Select(i) => list(f, &[Gpr(i.rt), Base(i.ra), Gpr(i.rb), Number(i.bit)]),
+        Instruction::Compare(i) => list(f, &[Number(i.field), Number(0), Gpr(i.ra), Gpr(i.rb)]),
+        Instruction::Trap(i) => list(f, &[Number(i.conditions), Gpr(i.ra), Gpr(i.rb)]),
+        Instruction::LoadIndexed(i) => list(f, &indexed(i.rt, i.ra, i.rb)),
+        Instruction::StoreIndexed(i) => list(f, &indexed(i.rs, i.ra, i.rb)),
+        Instruction::StoreConditional(i) => list(f, &indexed(i.rs, i.ra, i.rb)),
+        Instruction::MoveFromXer { field } => list(f, &[Number(field)]),
+        Instruction::Move(i) => list(f, &[Gpr(i.register)]),
+        Instruction::WriteExternalEnable { enable } => list(f, &[Number(enable as u32)]),
+        Instruction::MoveToConditionFields(i) => list(f, &[Number(i.mask), Gpr(i.rs)]),
+        Instruction::MoveSpecial(i) => list(f, &moved(i)),
+        Instruction::TlbWord(i) => list(f, &[Gpr(i.register), Gpr(i.ra), Number(i.word)]),
+        Instruction::TlbSearch(i) => list(f, &indexed(i.rt, i.ra, i.rb)),
+        Instruction::Barrier { ordering } => list(f, &[Number(ordering)]),
     }
 }

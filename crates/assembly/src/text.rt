@@ -1,6 +1,6 @@
 //! The assembler text of an instruction and of a word.
 use crate::mnemonic::Mnemonic;
-use crate::operand::Operands;
+use crate::operand::operands;
 use isa::instruction::Instruction;
 use std::fmt;
 
@@ -10,9 +10,8 @@ pub struct Text(pub Instruction);
 
 impl fmt::Display for Text {
     fn fmt<W: fmt::Write>(&self, f: &mut fmt::Formatter<W>) -> fmt::Result {
-        let mnemonic = Mnemonic::of(self.0);
-        let operands = Operands::of(self.0);
-        write!(f, "{mnemonic}{operands}")
+        write!(f, "{}", Mnemonic::of(self.0))?;
+        operands(f, self.0)
     }
 }
 

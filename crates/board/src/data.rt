@@ -1,15 +1,13 @@
 //! The data of an image, written to a bus and read back.
-ghost use Rattle.std.specs.Prelude.{◌^◌, ◌<◌};
-
 use bus::Bus;
 use console::Verdict;
 use describe::{Count, WordLine};
-use image::{Reader, Record, real_address};
+use image::{Data, Reader, Record};
 use placing::{Denied, place};
 use std::io;
 
 /// What came of writing data to a bus: how many bytes it took, and whether it took them all.
-#[derive(Clone, Copy)]
+#[derive(Clone, Copy, Default)]
 pub(crate) struct Loaded {
     pub bytes: usize,
     pub verdict: Verdict,
@@ -20,64 +18,46 @@ impl Loaded {
     fn and(self, more: Loaded) -> Loaded {
         Loaded {
             bytes: self.bytes.saturating_add(more.bytes),
-            verdict: match self.verdict {
-                Verdict::Sound => more.verdict,
-                Verdict::Faulty => Verdict::Faulty,
-            },
+            verdict: self.verdict.max(more.verdict),
         }
     }
 }
 
-const NOTHING: Loaded = Loaded {
-    bytes: 0,
-    verdict: Verdict::Sound,
-};
-
 /// Writes the data of an image to a bus, record by record, and prints what the bus then holds there, up to the first
 /// fault of the image.
-pub(crate) fn load<B: Bus>(rt: &impl Print, bus: &mut B, mut reader: Reader) -> io::Result<Loaded> {
-    let mut loaded = NOTHING;
-    loop {
-        match reader.next() {
-            Ok(Some(record)) => {
-                let more = show_record(rt, bus, record)?;
-                loaded = loaded.and(more);
-            }
-            Ok(None) => return Ok(loaded),
-            Err(refusal) => {
-                let verdict = console::refuse(rt, refusal)?;
-                return Ok(Loaded {
-                    bytes: loaded.bytes,
-                    verdict,
-                });
-            }
-        }
+pub(crate) fn load<B: Bus>(rt: &impl Print, bus: &mut B, reader: Reader) -> io::Result<Loaded> {
+    let mut loaded = Loaded::default();
+    for found in reader {
+        let more = match found {
+            Ok(record) => show_record(rt, bus, record)?,
+            Err(refusal) => Loaded {
+                bytes: 0,
+                verdict: console::refuse(rt, refusal)?,
+            },
+        };
+        loaded = loaded.and(more);
     }
+    Ok(loaded)
 }
 
 // Writes the bytes of a record of data. The other records are for a core, and a board has none.
 fn show_record<B: Bus>(rt: &impl Print, bus: &mut B, record: Record) -> io::Result<Loaded> {
     match record {
-        Record::Data {
-            erpn,
-            address,
-            bytes,
-        } => show_data(rt, bus, real_address(erpn, address), bytes),
-        Record::Entry(_) | Record::Start { .. } => Ok(NOTHING),
+        Record::Data(data) => show_data(rt, bus, data),
+        Record::Entry(_) | Record::Start(_) => Ok(Loaded::default()),
     }
 }
 
-fn show_data<B: Bus>(rt: &impl Print, bus: &mut B, address: u64, bytes: &[u8]) -> io::Result<Loaded>
-    requires { address < 2 ^ 40 }
-{
+fn show_data<B: Bus>(rt: &impl Print, bus: &mut B, data: Data) -> io::Result<Loaded> {
+    let address = data.real_address();
     let count = Count {
-        number: bytes.len(),
+        number: data.bytes.len(),
         noun: "byte",
     };
     println!(rt; "data at 0x{address:09X}, {count}")?;
-    let loaded = match place(bus, address, bytes) {
+    let loaded = match place(bus, address, data.bytes) {
         Ok(()) => Loaded {
-            bytes: bytes.len(),
+            bytes: data.bytes.len(),
             verdict: Verdict::Sound,
         },
         Err(denied) => {
@@ -88,22 +68,25 @@ fn show_data<B: Bus>(rt: &impl Print, bus: &mut B, address: u64, bytes: &[u8]) -
             }
         }
     };
-    read_back(rt, bus, address, bytes.len() as u64)?;
+    read_back(rt, bus, data)?;
     Ok(loaded)
 }
 
-// Reads each word that has one of these bytes, and prints it with its instruction.
-fn read_back<B: Bus>(rt: &impl Print, bus: &B, address: u64, length: u64) -> io::Result<()>
-    requires { (address < 2 ^ 40) × (length < 2 ^ 63) }
-{
-    let end = address + length;
-    let mut at = address - address % 4;
-    while at < end {
-        match bus.read(at, 4) {
-            Ok(word) => println!(rt; "{}", WordLine { address: at, word })?,
-            Err(code) => println!(rt; "  read at {}", Denied { address: at, code })?,
+// Reads each word that has one of the bytes, and prints it with its instruction.
+fn read_back<B: Bus>(rt: &impl Print, bus: &B, data: Data) -> io::Result<()> {
+    let begin = data.real_address();
+    let end = begin + data.bytes.len() as u64;
+    for address in (begin - begin % 4..end).step_by(4) {
+        match read_word(bus, address) {
+            Ok(word) => println!(rt; "{}", WordLine { address, word })?,
+            Err(denied) => println!(rt; "  read at {denied}")?,
         }
-        at += 4;
     }
     Ok(())
+}
+
+/// The word at an address of a bus.
+pub(crate) fn read_word<B: Bus>(bus: &B, address: u64) -> Result<u32, Denied> {
+    bus.read(address, 4)
+        .map_err(|code| Denied { address, code })
 }

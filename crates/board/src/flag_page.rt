@@ -1,4 +1,5 @@
 //! The word FLAGS of a flag page, cleared bit by bit.
+use crate::data::read_word;
 use bus::Bus;
 use placing::Denied;
 use std::io;
@@ -6,9 +7,9 @@ use std::io;
 /// Prints the word FLAGS, which stands at the address, writes each of its four lowest bits to it in turn, and prints
 /// what it is then.
 pub(crate) fn show_flags<B: Bus>(rt: &impl Print, bus: &mut B, address: u64) -> io::Result<()> {
-    match bus.read(address, 4) {
+    match read_word(bus, address) {
         Ok(flags) => println!(rt; "FLAGS is 0x{flags:08X}")?,
-        Err(code) => println!(rt; "FLAGS at {}", Denied { address, code })?,
+        Err(denied) => println!(rt; "FLAGS at {denied}")?,
     }
     for bit in 0u32..4 {
         show_clearing(rt, bus, address, 1 << bit)?;
@@ -21,8 +22,8 @@ fn show_clearing<B: Bus>(rt: &impl Print, bus: &mut B, address: u64, value: u32)
     if let Err(code) = bus.write(address, 4, value) {
         return println!(rt; "  write at {}", Denied { address, code });
     }
-    match bus.read(address, 4) {
+    match read_word(bus, address) {
         Ok(flags) => println!(rt; "  after writing 0x{value:08X} it is 0x{flags:08X}"),
-        Err(code) => println!(rt; "  read at {}", Denied { address, code }),
+        Err(denied) => println!(rt; "  read at {denied}"),
     }
 }

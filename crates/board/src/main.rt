@@ -33,28 +33,10 @@ const FLAG_FRAME: u64 = 64;
 const FIRST_FLAGS: u32 = 0xD;
 
 fn main(rt: HostRuntime) -> ExitCode {
-    console::status(console::end(&rt, run(&rt)))
+    console::run(&rt, USAGE, |reader| show_board(&rt, reader))
 }
 
-fn run(rt: &HostRuntime) -> io::Result<Verdict> {
-    if console::wants_usage(rt)? {
-        rt.print(USAGE)?;
-        return Ok(Verdict::Sound);
-    }
-    match console::read_bytes(rt)? {
-        Some(image) => show(rt, &image),
-        None => Ok(Verdict::Faulty),
-    }
-}
-
-// Opens an image, and shows a board at work on it.
-fn show(rt: &impl Print, image: &[u8]) -> io::Result<Verdict> {
-    match Reader::open(image) {
-        Ok(reader) => show_board(rt, reader),
-        Err(refusal) => console::refuse(rt, refusal),
-    }
-}
-
+// Shows a board at work on an image.
 fn show_board(rt: &impl Print, reader: Reader) -> io::Result<Verdict> {
     let mut bytes = [0; MEMORY_BYTES];
     let memory = Memory::new(0, &mut bytes);

@@ -1,7 +1,6 @@
 -- What a write keeps: the wiring, the other frames and the bus rules.
-use Rattle.std.proofs.Common.{◌≡◌, ℕ, ◌+◌, ◌≤◌, true, false, eqb, Some, None, Option, sym, refl, ap, ◌∙◌, subst, arith}
+use Rattle.std.proofs.Common.{◌≡◌, ℕ, ◌+◌, ◌≤◌, true, false, eqb, Some, None, Option, sym, refl, subst, arith}
 use mathlib.Core.Path.{fun_ext}
-use Rattle.std.proofs.lemmas.Bool.{ne_eqb}
 use Rattle.std.proofs.lemmas.Bool.Decides.{eqb_tells}
 use Rattle.bus.specs.declared.Direction.TheVariants.{Write}
 use Rattle.bus.specs.Model.{Model, frame_of, offset_of, well_formed, written, after}
@@ -30,19 +29,11 @@ module _ (m : Model) (x : Lawful m) (a w : ℕ) (served : m.wiring.denial Write 
 
 -- denials and write rules never change
 pub after-wiring : (m : Model) (a w v : ℕ) → (after m a w v).wiring ≡ m.wiring
-after-wiring m a w v = by (m.wiring.denial Write a w) refl
-  where
-    by : (o : Option ℕ) → m.wiring.denial Write a w ≡ o → (after m a w v).wiring ≡ m.wiring
-    by None e = simp e
-    by (Some c) e = simp e
+after-wiring m a w v = grind arith
 
 -- a write alters no other frame than its own
 pub after_others : (m : Model) (a w v f : ℕ) → (f ≡ frame_of a → ⊥) → (after m a w v).bytes f ≡ m.bytes f
-after_others m a w v f n = by (m.wiring.denial Write a w) refl
-  where
-    by : (o : Option ℕ) → m.wiring.denial Write a w ≡ o → (after m a w v).bytes f ≡ m.bytes f
-    by None e = ap (λ x. x.bytes f) (after_served m a w v e) ∙ fun_ext (λ k. simp (ne_eqb f (frame_of a) n))
-    by (Some c) e = simp e
+after_others m a w v f n = fun_ext (λ k. let d = eqb_tells f (frame_of a) in grind arith)
 
 pub after-lawful : (m : Model) → Lawful m → (a w v : ℕ) → Lawful (after m a w v)
 after-lawful m x a w v = by (m.wiring.denial Write a w) refl

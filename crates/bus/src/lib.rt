@@ -12,6 +12,7 @@ ghost use Rattle.bus.specs.declared.Direction.{Direction};
 pub const FRAME: u64 = 1024;
 
 /// Why an access is denied: a number from 1 to 254, of which a bus has its own but for `ABSENT` and `MALFORMED`.
+// It is no enum, since each bus has codes of its own, and none could list them all.
 pub type Code = u8;
 
 /// The frame is absent: of the well-formed accesses of a frame all get this code, or none does.
@@ -41,12 +42,10 @@ pub enum Direction {
 ///   denied with 254, before any other code.
 /// - Code 1 says that the frame is absent: of the well-formed accesses of a frame all get it, or none does.
 ///   A byte of an absent frame counts as zero, and the frames from 2^26 on are absent.
+// Address and width are plain numbers, since a bus answers any: a type of well-formed accesses would move its test to every caller.
 pub trait Bus {
     /// The model: bytes and wiring.
     ghost model: { Self → Model };
-
-    /// The model keeps the bus rules.
-    ghost lawful: { (b : Self) → Lawful (model b) };
 
     /// What was lent to the bus and no access alters: a `Unit` where nothing was.
     ghost Loan: { Type 0 };
@@ -69,37 +68,21 @@ pub trait Bus {
         ensures answer { result ≡ write_of (model self.old) address width }
         ensures state { model self.new ≡ after (model self.old) address width value }
         ensures loan { lent self.new ≡ lent self.old };
+
+    /// The model keeps the bus rules.
+    ghost lawful: { (b : Self) → Lawful (model b) };
 }
 
 /// Whether the width is 1, 2 or 4, and the address a multiple of it below 2^36.
 pub fn well_formed(address: u64, width: u32) -> bool
     ensures { result ≡ well_formed address width }
 {
-    (width == 1 || width == 2 || width == 4) && address % u64::from(width) == 0 && address < 1 << 36
-}
-
-// Writes to the left, or to the right where the left has no such frame.
-fn write_either<L: Bus, R: Bus>(
-    left: &mut L,
-    right: &mut R,
-    address: u64,
-    width: u32,
-    value: u32,
-) -> Result<(), Code>
-    ensures answer { result ≡ write_of (joined (L.Bus.model left.old) (R.Bus.model right.old)) address width }
-    ensures left { L.Bus.model left.new ≡ after (L.Bus.model left.old) address width value }
-    ensures right { R.Bus.model right.new ≡ (if is_absence ((L.Bus.model left.old).wiring.denial Direction.Write address width) then after (R.Bus.model right.old) address width value else R.Bus.model right.old) }
-    ensures loans { (L.Bus.lent left.new ≡ L.Bus.lent left.old) × (R.Bus.lent right.new ≡ R.Bus.lent right.old) }
-{
-    match left.write(address, width, value) {
-        Err(ABSENT) => right.write(address, width, value),
-        answer => answer,
-    }
+    matches!(width, 1 | 2 | 4) && address % u64::from(width) == 0 && address < 1 << 36
 }
 
 /// Two buses as one: what the left denies with `ABSENT` goes to the right. So the left hides the right
 /// frame by frame.
-#[derive(Drop)]
+#[derive(PartialEq, Eq, Debug, Drop)]
 pub struct Joined<L, R> {
     pub left: L,
     pub right: R,
@@ -117,8 +100,6 @@ impl<L: Bus, R: Bus> Joined<L, R> {
 
 impl<L: Bus, R: Bus> Bus for Joined<L, R> {
     ghost model = { model_of L.Bus.model R.Bus.model };
-
-    ghost lawful = { λ j. joined_lawful (L.Bus.model j.left) (R.Bus.model j.right) (L.Bus.lawful j.left) (R.Bus.lawful j.right) };
 
     ghost Loan = { L.Bus.Loan × R.Bus.Loan };
 
@@ -139,6 +120,11 @@ impl<L: Bus, R: Bus> Bus for Joined<L, R> {
     }
 
     fn write(&mut self, address: u64, width: u32, value: u32) -> Result<(), Code> {
-        write_either(&mut self.left, &mut self.right, address, width, value)
+        match self.left.write(address, width, value) {
+            Err(ABSENT) => self.right.write(address, width, value),
+            answer => answer,
+        }
     }
+
+    ghost lawful = { λ j. joined_lawful (L.Bus.model j.left) (R.Bus.model j.right) (L.Bus.lawful j.left) (R.Bus.lawful j.right) };
 }

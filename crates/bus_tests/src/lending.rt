@@ -2,7 +2,7 @@
 //! back: what it then holds is proved.
 ghost use Rattle.std.specs.Prelude.{◌≡◌};
 ghost use Rattle.bus.specs.Model.{write_of, after};
-ghost use Rattle.memory.specs.Memory.{memory as memoryModel, outside};
+ghost use Rattle.memory.specs.Memory.{memory, outside};
 
 use crate::table::holds;
 use bus::{Bus, Code};
@@ -20,8 +20,8 @@ fn store<B: Bus>(bus: &mut B, address: u64, value: u32) -> Result<(), Code>
 // Lends the slice from the frame `first` on, and writes a word. The slice then holds what the model says in the
 // frames that are served, and what it held elsewhere.
 fn store_in(bytes: &mut [u8], first: u64, address: u64, value: u32) -> Result<(), Code>
-    ensures answer { result ≡ write_of (memoryModel first bytes.old) address 4 }
-    ensures frames { memoryModel first bytes.new ≡ after (memoryModel first bytes.old) address 4 value }
+    ensures answer { result ≡ write_of (memory first bytes.old) address 4 }
+    ensures frames { memory first bytes.new ≡ after (memory first bytes.old) address 4 value }
     ensures rest { outside first bytes.new ≡ outside first bytes.old }
 {
     let mut memory = Memory::new(first, bytes);

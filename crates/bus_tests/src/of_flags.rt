@@ -23,12 +23,9 @@ fn writes_clear_flags_and_store_enable(rt: HostRuntime) {
 #[test]
 fn flags_go_bit_by_bit(rt: HostRuntime) {
     let mut page = FlagPage::new(0, 0xFFFF_FFFF);
-    let mut left = 0xFFFF_FFFFu32;
-    let mut bit = 1u32;
-    for _ in 0..32 {
-        left = left.wrapping_sub(bit);
-        play(&rt, &mut page, &[writes(0, 4, bit, left.to_be_bytes())]);
-        bit = bit.wrapping_mul(2);
+    for i in 0..32u32 {
+        let left = 0xFFFF_FFFEu32 << i;
+        play(&rt, &mut page, &[writes(0, 4, 1 << i, left.to_be_bytes())]);
     }
     play(&rt, &mut page, &[reads(0, 4, 0, [0; 4])]);
 }

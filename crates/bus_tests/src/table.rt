@@ -2,94 +2,93 @@
 use bus::{Bus, Code, Direction};
 use std::process::Abort;
 
+/// An access of a width at an address.
+#[derive(Clone, Copy)]
+enum Access {
+    Read,
+    Write(u32),
+}
+
+impl Access {
+    fn direction(self) -> Direction {
+        match self {
+            Access::Read => Direction::Read,
+            Access::Write(_) => Direction::Write,
+        }
+    }
+
+    /// Makes the access: a read answers its value, and a write nothing.
+    fn make<B: Bus>(self, bus: &mut B, address: u64, width: u32) -> Result<Option<u32>, Code> {
+        match self {
+            Access::Read => bus.read(address, width).map(Some),
+            Access::Write(value) => bus.write(address, width, value).map(|()| None),
+        }
+    }
+}
+
 /// An access, what it answers, and the four bytes of the word around its address afterwards.
 #[derive(Clone, Copy)]
 pub(crate) struct Row {
-    direction: Direction,
+    access: Access,
     address: u64,
     width: u32,
-    // what is written
-    value: u32,
-    // what is read, or 0 for a write
-    answer: Result<u32, Code>,
+    answer: Result<Option<u32>, Code>,
     after: [u8; 4],
+}
+
+impl Row {
+    fn new(
+        access: Access,
+        address: u64,
+        width: u32,
+        answer: Result<Option<u32>, Code>,
+        after: [u8; 4],
+    ) -> Self {
+        Row {
+            access,
+            address,
+            width,
+            answer,
+            after,
+        }
+    }
 }
 
 /// A read that answers `value`.
 pub(crate) fn reads(address: u64, width: u32, value: u32, after: [u8; 4]) -> Row {
-    Row {
-        direction: Direction::Read,
-        address,
-        width,
-        value: 0,
-        answer: Ok(value),
-        after,
-    }
+    Row::new(Access::Read, address, width, Ok(Some(value)), after)
 }
 
 /// A write of `value` that is served.
 pub(crate) fn writes(address: u64, width: u32, value: u32, after: [u8; 4]) -> Row {
-    Row {
-        direction: Direction::Write,
-        address,
-        width,
-        value,
-        answer: Ok(0),
-        after,
-    }
+    Row::new(Access::Write(value), address, width, Ok(None), after)
 }
 
 /// A read that is denied.
 pub(crate) fn no_read(address: u64, width: u32, code: Code, after: [u8; 4]) -> Row {
-    Row {
-        direction: Direction::Read,
-        address,
-        width,
-        value: 0,
-        answer: Err(code),
-        after,
-    }
+    Row::new(Access::Read, address, width, Err(code), after)
 }
 
 /// A write of all ones that is denied.
 pub(crate) fn no_write(address: u64, width: u32, code: Code, after: [u8; 4]) -> Row {
-    Row {
-        direction: Direction::Write,
-        address,
-        width,
-        value: u32::MAX,
-        answer: Err(code),
-        after,
-    }
+    Row::new(Access::Write(u32::MAX), address, width, Err(code), after)
 }
 
 /// The four bytes of the word around an address, where a byte that cannot be read counts as zero.
 fn word_around<B: Bus>(bus: &B, address: u64) -> [u8; 4] {
-    match bus.read(address / 4 * 4, 4) {
-        Ok(value) => value.to_be_bytes(),
-        Err(_) => [0; 4],
-    }
-}
-
-/// Makes the access of the row.
-fn access<B: Bus>(bus: &mut B, row: &Row) -> Result<u32, Code> {
-    match row.direction {
-        Direction::Read => bus.read(row.address, row.width),
-        Direction::Write => match bus.write(row.address, row.width, row.value) {
-            Ok(()) => Ok(0),
-            Err(code) => Err(code),
-        },
-    }
+    bus.read(address / 4 * 4, 4)
+        .map_or([0; 4], u32::to_be_bytes)
 }
 
 /// Goes through the rows: asks, makes the access, and looks at the word around it before and after.
 pub(crate) fn play<B: Bus>(rt: &impl Abort, bus: &mut B, rows: &[Row]) {
     for (i, row) in rows.iter().enumerate() {
         let before = word_around(bus, row.address);
-        let denial = bus.denial(row.direction, row.address, row.width);
+        let denial = bus.denial(row.access.direction(), row.address, row.width);
         assert_eq!(rt; denial, row.answer.err(), "row {i}: the question");
         assert_eq!(rt; word_around(bus, row.address), before, "row {i}: asked");
-        assert_eq!(rt; access(bus, row), row.answer, "row {i}: the answer");
+        let answer = row.access.make(bus, row.address, row.width);
+        assert_eq!(rt; answer, row.answer, "row {i}: the answer");
         assert_eq!(rt;
             word_around(bus, row.address),
             row.after,
@@ -106,10 +105,8 @@ pub(crate) fn holds(rt: &impl Abort, bytes: &[u8], listed: &[(usize, u8)], other
 }
 
 fn listed_at(listed: &[(usize, u8)], place: usize, other: u8) -> u8 {
-    for (at, byte) in listed {
-        if *at == place {
-            return *byte;
-        }
-    }
-    other
+    listed
+        .iter()
+        .find(|(at, _)| *at == place)
+        .map_or(other, |(_, byte)| *byte)
 }

@@ -1,12 +1,14 @@
 -- Registers that are all zero, and what a new machine keeps.
 use Rattle.std.proofs.Common.{◌≡◌, ℕ, ◌<◌, List, false, length, get_or, replicate, refl, sym, ◌∙◌, rules, arith}
 use Rattle.std.proofs.lemmas.List.{ext_get_or, get_or-replicate, length-replicate}
+use Rattle.std.proofs.lemmas.List.Elements.{All-replicate}
 use Rattle.std.proofs.lemmas.Grind.{common_steps}
 use Rattle.std.specs.Array.{AllOfLen}
 use Rattle.cpu.specs.declared.registers.Working.{Working}
 use Rattle.cpu.specs.declared.registers.Shown.{Shown}
 use Rattle.cpu.specs.declared.registers.Msr.{Msr}
 use Rattle.cpu.specs.declared.registers.Xer.{Xer}
+use Rattle.pages.specs.Entries.{blank, Kept}
 use Rattle.core465.specs.declared.hidden.Hidden.{Hidden}
 use Rattle.core465.specs.declared.hidden.Saved.{Saved}
 use Rattle.core465.specs.Machine.{MachineKept, new_machine}
@@ -51,5 +53,5 @@ new_kept = record {
   saved = (refl, refl);
   task = (refl, refl);
   vectors = (refl, zeros_kept 16);
-  entries = search rules;
+  entries = All-replicate Kept 64 blank refl;
 }

@@ -163,3 +163,7 @@ Waits left.Trap u w = w ≡ u
 Waits left.Call u w = w ≡ u
 Waits left.Illegal u w = w ≡ u
 Waits (left.Privileged d) u w = w ≡ u
+
+-- a deed over registers that had their part, as an effect, with none altered where something is left to do
+abbrev pub Leaves : Deed → (before after : Working) → Effect → Type 0
+Leaves d u w e = (effect_of d w ≡ e) × Waits d u w

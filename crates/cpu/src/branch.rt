@@ -10,6 +10,13 @@ use isa::instruction::{Branch, BranchConditional, BranchRegister, BranchTarget};
 use word::condition;
 use word::sign::extend;
 
+/// What a conditional branch asks: its options BO, and BI, the bit of the condition register that they test.
+#[derive(Clone, Copy)]
+struct Test {
+    options: u32,
+    bit: u32,
+}
+
 impl Working {
     /// The next instruction's address.
     fn after(&self) -> u32
@@ -60,9 +67,10 @@ impl Working {
     }
 
     /// Whether a branch is taken.
-    fn takes(&self, options: u32, bit: u32) -> bool
-        ensures { result ≡ taken options bit self.now }
+    fn takes(&self, test: Test) -> bool
+        ensures { result ≡ taken test.options test.bit self.now }
     {
+        let Test { options, bit } = test;
         let count = options / 4 % 2 == 1
             || (self.count_after(options) == 0) == (options / 2 % 2 == 1);
         let condition = options / 16 % 2 == 1
@@ -71,16 +79,16 @@ impl Working {
     }
 
     /// A conditional branch to a target.
-    fn resolve(&mut self, options: u32, bit: u32, lk: bool, target: u32) -> Deed
-        ensures { Finishes result self.new (resolved options bit lk target self.old) }
+    fn resolve(&mut self, test: Test, lk: bool, target: u32) -> Deed
+        ensures { Finishes result self.new (resolved test.options test.bit lk target self.old) }
     {
-        let counter = if self.takes(options, bit) {
+        let counter = if self.takes(test) {
             target
         } else {
             self.after()
         };
         self.link(lk);
-        self.ctr = self.count_after(options);
+        self.ctr = self.count_after(test.options);
         self.pc = counter;
         Deed::Finished
     }
@@ -90,7 +98,11 @@ impl Working {
         ensures { Finishes result self.new (branch_conditional i self.old) }
     {
         let target = self.aim(i.absolute, extend::<16>(i.displacement.wrapping_mul(4)));
-        self.resolve(i.options, i.bit, i.link, target)
+        let test = Test {
+            options: i.options,
+            bit: i.bit,
+        };
+        self.resolve(test, i.link, target)
     }
 
     /// The target that a register holds.
@@ -108,6 +120,10 @@ impl Working {
         ensures { Finishes result self.new (branch_register i self.old) }
     {
         let target = self.register_target(i.target);
-        self.resolve(i.options, i.bit, i.link, target)
+        let test = Test {
+            options: i.options,
+            bit: i.bit,
+        };
+        self.resolve(test, i.link, target)
     }
 }

@@ -32,7 +32,7 @@ impl Xer {
     fn field(self) -> u32
         ensures { result ≡ xer_field self }
     {
-        self.so as u32 * 8 + self.ov as u32 * 4 + self.ca as u32 * 2
+        u32::from(self.so) * 8 + u32::from(self.ov) * 4 + u32::from(self.ca) * 2
     }
 }
 
@@ -65,10 +65,8 @@ impl Working {
     {
         self.cr = condition::with_field(self.cr, field, self.xer.field());
         self.xer = Xer {
-            so: false,
-            ov: false,
-            ca: false,
             count: self.xer.count,
+            ..Xer::default()
         };
         self.proceed()
     }

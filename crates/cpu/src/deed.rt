@@ -62,6 +62,7 @@ pub enum Privileged {
         number: u32,
         value: u32,
     },
+    // The number of a word is any: the core that carries the deed out refuses the numbers that name none.
     /// tlbre.
     ReadEntry {
         rt: Register,

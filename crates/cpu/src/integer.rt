@@ -75,11 +75,12 @@ impl Working {
     fn record(&mut self, value: u32)
         ensures { self.new ≡ with_cr0 self.old value }
     {
-        let field = condition::compare_signed(value, 0) + self.xer.so as u32;
+        let field = condition::compare_signed(value, 0) + u32::from(self.xer.so);
         self.cr = condition::with_field(self.cr, 0, field);
     }
 
     /// An outcome to its register, to XER and, with Rc, to condition field 0.
+    #[tactic(auto, unfolding(crate::specs::Integer::completed))]
     fn complete(&mut self, target: Register, outcome: Outcome, oe: bool, rc: bool)
         ensures { self.new ≡ completed target outcome oe rc self.old }
     {
@@ -95,12 +96,11 @@ impl Working {
         ensures { result ≡ immediate_operand op self.now ra }
     {
         match op {
-            ImmediateOp::Addi => self.base(ra),
-            ImmediateOp::Addis => self.base(ra),
-            ImmediateOp::Addic => self.word(ra),
-            ImmediateOp::AddicRecord => self.word(ra),
-            ImmediateOp::Subfic => self.word(ra),
-            ImmediateOp::Mulli => self.word(ra),
+            ImmediateOp::Addi | ImmediateOp::Addis => self.base(ra),
+            ImmediateOp::Addic
+            | ImmediateOp::AddicRecord
+            | ImmediateOp::Subfic
+            | ImmediateOp::Mulli => self.word(ra),
         }
     }
 
@@ -187,8 +187,7 @@ impl Working {
         ensures { result ≡ rotate_amount op self.now amount }
     {
         match op {
-            RotateOp::Rlwimi => amount,
-            RotateOp::Rlwinm => amount,
+            RotateOp::Rlwimi | RotateOp::Rlwinm => amount,
             RotateOp::Rlwnm => self.word(amount),
         }
     }
@@ -221,8 +220,11 @@ impl Working {
     fn compare_into(&mut self, comparison: Comparison, field: u32, a: u32, b: u32)
         ensures { self.new ≡ with_comparison self.old comparison field a b }
     {
-        let value = compared(comparison, a, b) + self.xer.so as u32;
-        self.cr = condition::with_field(self.cr, field, value);
+        let order = match comparison {
+            Comparison::Signed => condition::compare_signed(a, b),
+            Comparison::Unsigned => condition::compare(a, b),
+        };
+        self.cr = condition::with_field(self.cr, field, order + u32::from(self.xer.so));
     }
 
     /// cmp, cmpl.
@@ -262,16 +264,6 @@ fn logical_immediate_records(op: LogicalImmediateOp) -> bool
         op,
         LogicalImmediateOp::AndiRecord | LogicalImmediateOp::AndisRecord
     )
-}
-
-/// How two words compare.
-fn compared(comparison: Comparison, a: u32, b: u32) -> u32
-    ensures { (result ≡ compared comparison a b) × (result < 9) }
-{
-    match comparison {
-        Comparison::Signed => condition::compare_signed(a, b),
-        Comparison::Unsigned => condition::compare(a, b),
-    }
 }
 
 /// The word that an immediate is compared as.

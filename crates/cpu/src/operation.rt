@@ -18,11 +18,7 @@ use word::sign::{extend, invert};
 fn keeping(outcome: Outcome, carry: bool) -> Outcome
     ensures { result ≡ keeping outcome carry }
 {
-    Outcome {
-        value: outcome.value,
-        carry,
-        overflow: outcome.overflow,
-    }
+    Outcome { carry, ..outcome }
 }
 
 /// A word that leaves the carry as it was, without overflow.
@@ -43,9 +39,8 @@ fn quotient(value: Option<u32>, carry: bool) -> Outcome
     match value {
         Some(value) => plain(value, carry),
         None => Outcome {
-            value: 0,
-            carry,
             overflow: true,
+            ..plain(0, carry)
         },
     }
 }
@@ -58,8 +53,7 @@ pub fn immediate_outcome(op: ImmediateOp, a: u32, immediate: u32, carry: bool) -
     match op {
         ImmediateOp::Addi => plain(a.wrapping_add(signed), carry),
         ImmediateOp::Addis => plain(a.wrapping_add(immediate % 0x1_0000 * 0x1_0000), carry),
-        ImmediateOp::Addic => add(a, signed, false),
-        ImmediateOp::AddicRecord => add(a, signed, false),
+        ImmediateOp::Addic | ImmediateOp::AddicRecord => add(a, signed, false),
         ImmediateOp::Subfic => add(invert(a), signed, true),
         ImmediateOp::Mulli => plain(multiply(a, signed), carry),
     }
@@ -77,9 +71,8 @@ pub fn arithmetic_outcome(op: ArithmeticOp, a: u32, b: u32, carry: bool) -> Outc
         ArithmeticOp::Subfc => add(invert(a), b, true),
         ArithmeticOp::Subfe => add(invert(a), b, carry),
         ArithmeticOp::Mullw => Outcome {
-            value: multiply(a, b),
-            carry,
             overflow: multiply_overflows(a, b),
+            ..plain(multiply(a, b), carry)
         },
         ArithmeticOp::Divw => quotient(divide_signed(a, b), carry),
         ArithmeticOp::Divwu => quotient(divide(a, b), carry),
@@ -161,7 +154,6 @@ pub fn rotate_value(op: RotateOp, old: u32, rotated: u32, mask: u32) -> u32
 {
     match op {
         RotateOp::Rlwimi => merge(old, rotated, mask),
-        RotateOp::Rlwinm => rotated & mask,
-        RotateOp::Rlwnm => rotated & mask,
+        RotateOp::Rlwinm | RotateOp::Rlwnm => rotated & mask,
     }
 }

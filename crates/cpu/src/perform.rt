@@ -1,7 +1,7 @@
 //! The register part of every instruction.
 ghost use Rattle.std.specs.Prelude.{◌≡◌, ℕ, ◌%◌, ◌<◌};
 ghost use Rattle.cpu.specs.Kept.{Kept};
-ghost use Rattle.cpu.specs.Effects.{seen_of, effected, effect, effect_of, tlb_search, store_conditional, trapping, bare, move, move_special, tlb_word, Waits};
+ghost use Rattle.cpu.specs.Effects.{seen_of, effected, effect, effect_of, tlb_search, store_conditional, trapping, bare, move, move_special, tlb_word, Waits, Leaves};
 
 use crate::deed::{Deed, Privileged};
 use crate::registers::{Shown, Working};
@@ -16,16 +16,14 @@ use word::sign::extend;
 impl Working {
     /// A trap, or the next instruction.
     fn trap_if(&mut self, traps: bool) -> Deed
-        ensures same { effect_of result self.new ≡ trapping traps self.old }
-        ensures waits { Waits result self.old self.new }
+        ensures { Leaves result self.old self.new (trapping traps self.old) }
     {
         if traps { Deed::Trap } else { self.proceed() }
     }
 
     /// stwcx.: a store where the reservation is set, and otherwise only its translation.
     fn store_conditional(&self, i: StoreConditional) -> Deed
-        ensures same { effect_of result self.now ≡ store_conditional i self.now }
-        ensures waits { Waits result self.now self.now }
+        ensures { Leaves result self.now self.now (store_conditional i self.now) }
     {
         if self.reserved {
             Deed::Store(self.storing_conditional(i))
@@ -38,21 +36,18 @@ impl Working {
 
     /// rfi, isync, msync, tlbsync.
     fn bare(&mut self, op: BareOp) -> Deed
-        ensures same { effect_of result self.new ≡ bare op self.old }
-        ensures waits { Waits result self.old self.new }
+        ensures { Leaves result self.old self.new (bare op self.old) }
     {
         match op {
             BareOp::Rfi => Deed::Privileged(Privileged::Return),
-            BareOp::Isync => self.proceed(),
-            BareOp::Msync => self.proceed(),
+            BareOp::Isync | BareOp::Msync => self.proceed(),
             BareOp::Tlbsync => Deed::Privileged(Privileged::Synchronize),
         }
     }
 
     /// mfcr, mfmsr, mtmsr, wrtee.
     fn move_register(&mut self, i: Move) -> Deed
-        ensures same { effect_of result self.new ≡ move i.op i.register self.old }
-        ensures waits { Waits result self.old self.new }
+        ensures { Leaves result self.old self.new (move i.op i.register self.old) }
     {
         let value = self.word(i.register);
         match i.op {
@@ -67,8 +62,7 @@ impl Working {
 
     /// mfspr.
     fn move_from_special(&mut self, shown: &Shown, rt: u32, number: u32) -> Deed
-        ensures same { effect_of result self.new ≡ move_special SpecialOp.Mfspr rt number self.old shown.now }
-        ensures waits { Waits result self.old self.new }
+        ensures { Leaves result self.old self.new (move_special SpecialOp.Mfspr rt number self.old shown.now) }
     {
         if privileged_number(number) {
             return Deed::Privileged(Privileged::ReadSpecial { rt, number });
@@ -84,8 +78,7 @@ impl Working {
 
     /// mtspr.
     fn move_to_special(&mut self, shown: &Shown, rs: u32, number: u32) -> Deed
-        ensures same { effect_of result self.new ≡ move_special SpecialOp.Mtspr rs number self.old shown.now }
-        ensures waits { Waits result self.old self.new }
+        ensures { Leaves result self.old self.new (move_special SpecialOp.Mtspr rs number self.old shown.now) }
     {
         let value = self.word(rs);
         if privileged_number(number) {
@@ -99,8 +92,7 @@ impl Working {
 
     /// mfspr, mtspr.
     fn move_special(&mut self, shown: &Shown, i: MoveSpecial) -> Deed
-        ensures same { effect_of result self.new ≡ move_special i.op i.register i.number self.old shown.now }
-        ensures waits { Waits result self.old self.new }
+        ensures { Leaves result self.old self.new (move_special i.op i.register i.number self.old shown.now) }
     {
         match i.op {
             SpecialOp::Mfspr => self.move_from_special(shown, i.register, i.number),
@@ -140,8 +132,7 @@ impl Working {
 
     /// The register part of an instruction, one arm for each format.
     fn perform_format(&mut self, shown: &Shown, instruction: Instruction) -> Deed
-        ensures same { effect_of result self.new ≡ effected instruction self.old shown.now }
-        ensures waits { Waits result self.old self.new }
+        ensures { Leaves result self.old self.new (effected instruction self.old shown.now) }
     {
         match instruction {
             Instruction::Immediate(i) => self.immediate(i),
@@ -194,6 +185,7 @@ impl Working {
     }
 
     /// The register part of an instruction: it is done, or what is left to do is told and no register is altered yet.
+    #[tactic(auto, using(crate::proofs::Kept::kept, crate::proofs::Kept::deed_kept), unfolding(crate::specs::Effects::effect))]
     pub fn perform(&mut self, shown: &Shown, instruction: Instruction) -> Deed
         ensures same { effect_of result self.new ≡ effect instruction (seen_of self.old shown.now) }
         ensures waits { Waits result self.old self.new }

@@ -112,7 +112,7 @@ fn run_row(rt: &impl Abort, heap: Global, row: Row<'_>) -> Result<(), Fail> {
     let mut working = expected;
     let deed = working.perform(&SHOWN, instruction);
     if !matches!(deed, Deed::Finished) {
-        same(rt, row.text, &working, &expected);
+        assert_eq!(rt; working, expected, "{}", row.text);
     }
     if goes_on(deed) {
         expected.pc = expected.pc.wrapping_add(4);
@@ -124,7 +124,7 @@ fn run_row(rt: &impl Abort, heap: Global, row: Row<'_>) -> Result<(), Fail> {
     };
     assert_eq!(rt; described(heap, deed)?.as_str(), left, "{}", row.text);
     end(&mut working, deed, value);
-    same(rt, row.text, &working, &expected);
+    assert_eq!(rt; working, expected, "{}", row.text);
     Ok(())
 }
 
@@ -184,19 +184,4 @@ fn xer(word: u32) -> Xer {
         ca: word / 0x2000_0000 % 2 == 1,
         count: word % 128,
     }
-}
-
-/// Whether all registers agree; the text says after what.
-pub fn same(rt: &impl Abort, text: &str, found: &Working, expected: &Working) {
-    assert_eq!(rt; found.gpr, expected.gpr, "{text}");
-    assert_eq!(rt; found.cr, expected.cr, "{text}");
-    assert_eq!(rt; found.xer.so, expected.xer.so, "{text}");
-    assert_eq!(rt; found.xer.ov, expected.xer.ov, "{text}");
-    assert_eq!(rt; found.xer.ca, expected.xer.ca, "{text}");
-    assert_eq!(rt; found.xer.count, expected.xer.count, "{text}");
-    assert_eq!(rt; found.lr, expected.lr, "{text}");
-    assert_eq!(rt; found.ctr, expected.ctr, "{text}");
-    assert_eq!(rt; found.usprg0, expected.usprg0, "{text}");
-    assert_eq!(rt; found.pc, expected.pc, "{text}");
-    assert_eq!(rt; found.reserved, expected.reserved, "{text}");
 }

@@ -1,5 +1,5 @@
 // What is left to do, as text.
-use cpu::deed::{Deed, Privileged};
+use cpu::deed::{Deed, Loading, Privileged, Storing};
 use std::alloc::{AllocError, Global};
 
 /// What is left to do: a load by its width and address, a store by its value too, and a privileged deed by the name of
@@ -7,17 +7,17 @@ use std::alloc::{AllocError, Global};
 pub fn described(heap: Global, deed: Deed) -> Result<String, AllocError> {
     match deed {
         Deed::Finished => String::from_str(heap, "done"),
-        Deed::Load(l) => {
-            let width = l.width;
-            let address = l.address;
+        Deed::Load(Loading { width, address, .. }) => {
             format!(in heap; "load {width} at {address:08X}")
         }
-        Deed::Store(s) => {
-            let width = s.width;
-            let address = s.address;
-            let value = s.value;
-            format!(in heap; "store {width} at {address:08X} of {value:X}")
-        }
+        Deed::Store(
+            Storing {
+                width,
+                address,
+                value,
+                ..
+            },
+        ) => format!(in heap; "store {width} at {address:08X} of {value:X}"),
         Deed::Probe { address } => format!(in heap; "probe at {address:08X}"),
         Deed::Trap => String::from_str(heap, "trap"),
         Deed::Call => String::from_str(heap, "call"),

@@ -10,8 +10,7 @@ pub struct Count {
 
 impl fmt::Display for Count {
     fn fmt<W: fmt::Write>(&self, f: &mut fmt::Formatter<W>) -> fmt::Result {
-        let number = self.number;
-        let noun = self.noun;
+        let Count { number, noun } = *self;
         let plural = if number == 1 { "" } else { "s" };
         write!(f, "{number} {noun}{plural}")
     }

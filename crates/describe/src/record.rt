@@ -13,19 +13,8 @@ impl<'a> fmt::Display for Described<'a> {
     fn fmt<W: fmt::Write>(&self, f: &mut fmt::Formatter<W>) -> fmt::Result {
         match self.0 {
             Record::Entry(entry) => write!(f, "{}", Entry(entry)),
-            Record::Data {
-                erpn,
-                address,
-                bytes,
-            } => {
-                let data = Data {
-                    erpn,
-                    address,
-                    bytes,
-                };
-                write!(f, "{data}")
-            }
-            Record::Start { counter, msr } => write!(f, "{}", Start { counter, msr }),
+            Record::Data(data) => write!(f, "{}", Data(data)),
+            Record::Start(start) => write!(f, "{}", Start(start)),
         }
     }
 }

@@ -1,5 +1,5 @@
 -- The flag page: one frame, zero but for two words.
-use Rattle.std.specs.Prelude.{ℕ, ◌-◌, ◌/◌, ◌%◌, ◌^◌, Bool, cond, not, ◌&&◌, ◌||◌, Some, None, Option, ◌==◌, bit_and, nat_lt}
+use Rattle.std.specs.Prelude.{ℕ, ◌-◌, ◌^◌, Bool, cond, not, ◌&&◌, ◌||◌, Some, None, Option, ◌==◌, bit_and, nat_lt}
 use Rattle.bus.specs.Model.{Model, Wiring, Bytes, put_at, well_formed, frame_of, offset_of, big_endian}
 use Rattle.flags.specs.declared.FlagPage.{FlagPage}
 
@@ -23,10 +23,6 @@ page_denial n a w =
 -- a word without the bits that are one in `v`
 abbrev pub without : ℕ → ℕ → ℕ
 without x v = bit_and x (2 ^ 32 - 1 - v)
-
--- the bit of a number that counts 2^i
-abbrev pub bit_of : ℕ → ℕ → ℕ
-bit_of x i = x / 2 ^ i % 2
 
 -- writing FLAGS clears bits, writing ENABLE stores the value
 abbrev pub page_rule : Bytes → ℕ → ℕ → ℕ → Bytes

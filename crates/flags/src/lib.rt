@@ -1,9 +1,12 @@
 //! The flag page: one frame, zero but for the words FLAGS and ENABLE.
 #![tactic(auto)]
 
-ghost use Rattle.std.specs.Prelude.{◌≡◌, ℕ, ◌%◌, ◌^◌, ◌<◌, if◌then◌else◌, nat_eq};
-ghost use Rattle.flags.specs.Flags.{page as pageModel, bit_of, without, model_of};
+ghost use Rattle.std.specs.Prelude.{◌≡◌, ℕ, ◌%◌, ◌<◌, if◌then◌else◌, nat_eq};
+ghost use Rattle.std.specs.Int.{bit_at};
+ghost use Rattle.bus.specs.Model.{answered};
+ghost use Rattle.flags.specs.Flags.{page, page_denial, without, model_of};
 ghost use Rattle.flags.specs.Laws.{page_lawful};
+ghost use Rattle.flags.specs.declared.Word.{Word};
 
 use bus::{ABSENT, Bus, Code, Direction, FRAME, MALFORMED, well_formed};
 
@@ -19,41 +22,15 @@ pub const NO_SUCH_WORD: Code = 2;
 /// The code of an access of another width than 4. It comes before `NO_SUCH_WORD`.
 pub const NOT_A_WORD: Code = 3;
 
-// The word that a read at this offset answers, of a page with these two.
-fn word_at(offset: u64, flags: u32, enable: u32) -> u32
-    ensures { result ≡ (if nat_eq offset 0 then flags else enable) % 2 ^ 32 }
-{
-    if offset == FLAGS { flags } else { enable }
-}
-
-// The word and not the other.
-fn and_not(word: u32, ones: u32) -> u32
-    ensures { result ≡ without (word % 2 ^ 32) ones }
-{
-    word & !ones
-}
-
-// The word without the bits that are one in `ones`.
-fn clear(word: u32, ones: u32) -> u32
-    ensures number { result ≡ without (word % 2 ^ 32) ones }
-    ensures bits { (i : ℕ) → i < 32 → bit_of result i ≡ (if nat_eq (bit_of ones i) 1 then 0 else bit_of word i) }
-{
-    and_not(word, ones)
-}
-
-// FLAGS and ENABLE after a write at this offset.
-fn rewritten(offset: u64, flags: u32, enable: u32, value: u32) -> (u32, u32)
-    ensures { (result.0 ≡ (if nat_eq offset 0 then without (flags % 2 ^ 32) value else flags)) × (result.1 ≡ (if nat_eq offset 0 then enable else value)) }
-{
-    if offset == FLAGS {
-        (clear(flags, value), enable)
-    } else {
-        (flags, value)
-    }
+// The word that an access names.
+#[derive(Clone, Copy)]
+enum Word {
+    Flags,
+    Enable,
 }
 
 /// A frame of its own, zero but for the words FLAGS and ENABLE.
-#[derive(Drop)]
+#[derive(PartialEq, Eq, Debug, Drop)]
 pub struct FlagPage {
     frame: u64,
     flags: u32,
@@ -64,7 +41,7 @@ impl FlagPage {
     /// The page at the frame of that number, or none if it is 2^26 or more, with FLAGS as given and
     /// ENABLE 0.
     pub fn new(frame: u64, flags: u32) -> Self
-        ensures { model_of result ≡ pageModel frame flags 0 }
+        ensures { model_of result ≡ page frame flags 0 }
     {
         FlagPage {
             frame,
@@ -72,46 +49,64 @@ impl FlagPage {
             enable: 0,
         }
     }
+
+    // Clears the bits of FLAGS that are one in `ones`.
+    fn clear(&mut self, ones: u32)
+        ensures number { self.new.flags ≡ without self.old.flags ones }
+        ensures bits { (i : ℕ) → i < 32 → bit_at self.new.flags i ≡ (if nat_eq (bit_at ones i) 1 then 0 else bit_at self.old.flags i) }
+        ensures others { (self.new.frame ≡ self.old.frame) × (self.new.enable ≡ self.old.enable) }
+    {
+        self.flags &= !ones;
+    }
+
+    // The word that an access names, or the code of its denial.
+    fn word_at(&self, address: u64, width: u32) -> Result<Word, Code>
+        ensures { result ≡ answered (page_denial self.now.frame address width) (if nat_eq (address % 1024) 0 then Word.Flags else Word.Enable) }
+    {
+        if !well_formed(address, width) {
+            Err(MALFORMED)
+        } else if address / FRAME != self.frame {
+            Err(ABSENT)
+        } else if width != 4 {
+            Err(NOT_A_WORD)
+        } else {
+            match address % FRAME {
+                FLAGS => Ok(Word::Flags),
+                ENABLE => Ok(Word::Enable),
+                _ => Err(NO_SUCH_WORD),
+            }
+        }
+    }
 }
 
 impl Bus for FlagPage {
     ghost model = { model_of };
-
-    ghost lawful = { λ p. page_lawful p.frame p.flags p.enable };
 
     ghost Loan = { Unit {0} };
 
     ghost lent = { λ _. tt };
 
     fn denial(&self, _direction: Direction, address: u64, width: u32) -> Option<Code> {
-        let offset = address % FRAME;
-        if !well_formed(address, width) {
-            Some(MALFORMED)
-        } else if address / FRAME != self.frame {
-            Some(ABSENT)
-        } else if width != 4 {
-            Some(NOT_A_WORD)
-        } else if offset != FLAGS && offset != ENABLE {
-            Some(NO_SUCH_WORD)
-        } else {
-            None
-        }
+        self.word_at(address, width).err()
     }
 
     fn read(&self, address: u64, width: u32) -> Result<u32, Code> {
-        match self.denial(Direction::Read, address, width) {
-            Some(code) => Err(code),
-            None => Ok(word_at(address % FRAME, self.flags, self.enable)),
-        }
+        let word = self.word_at(address, width)?;
+        // A number that is read through a reference is known to fit its type, and a field by its path is not.
+        let FlagPage { flags, enable, .. } = self;
+        Ok(match word {
+            Word::Flags => *flags,
+            Word::Enable => *enable,
+        })
     }
 
     fn write(&mut self, address: u64, width: u32, value: u32) -> Result<(), Code> {
-        if let Some(code) = self.denial(Direction::Write, address, width) {
-            return Err(code);
+        match self.word_at(address, width)? {
+            Word::Flags => self.clear(value),
+            Word::Enable => self.enable = value,
         }
-        let (flags, enable) = rewritten(address % FRAME, self.flags, self.enable, value);
-        self.flags = flags;
-        self.enable = enable;
         Ok(())
     }
+
+    ghost lawful = { λ p. page_lawful p.frame p.flags p.enable };
 }

@@ -1,9 +1,9 @@
 -- What a hexadecimal text means. Assumes nothing.
-use Rattle.std.specs.Prelude.{◌≡◌, ℕ, ◌+◌, ◌-◌, ◌*◌, ◌%◌, ◌<◌, Bool, true, false, cond, List, [], ◌∷◌, length, Ok, Err, vec_items, Result, ◌==◌, nat_lt}
+use Rattle.std.specs.Prelude.{◌≡◌, ℕ, ◌+◌, ◌-◌, ◌*◌, ◌%◌, ◌<◌, Bool, true, false, cond, not, List, [], ◌∷◌, length, Some, None, Ok, Err, Option, vec_items, Result, ◌==◌}
 use Rattle.std.specs.Global.{Vec}
 use Rattle.std.specs.Int.{is_in_range}
 use Rattle.std.specs.Char.{is_ascii_whitespace}
-use Rattle.std.specs.List.{prefix_len}
+use Rattle.std.specs.List.{filter_map, position}
 use Rattle.hexadecimal.specs.declared.Fault.{Fault}
 use Rattle.hexadecimal.specs.declared.Fault.TheVariants.{NoDigit, HalfByte, NoMemory}
 use Rattle.hexadecimal.specs.declared.Symbol.{Symbol}
@@ -28,19 +28,19 @@ is_known (Digit d) = true
 is_known Space = true
 is_known Other = false
 
--- how many characters stand before the first that is neither a digit nor white space, or all of them
-abbrev pub sound : List ℕ → ℕ
-sound text = prefix_len (λ c. is_known (symbol_of c)) text
+-- where the first character stands that is neither a digit nor white space
+abbrev pub unknown : List ℕ → Option ℕ
+unknown text = position (λ c. not (is_known (symbol_of c))) text
 
-abbrev pub valued : Symbol → List ℕ → List ℕ
-valued (Digit d) ds = d ∷ ds
-valued Space ds = ds
-valued Other ds = ds
+-- the value of a digit
+abbrev pub digit_of : Symbol → Option ℕ
+digit_of (Digit d) = Some d
+digit_of Space = None
+digit_of Other = None
 
 -- the values of the digits of a text, in their order
 abbrev pub digits : List ℕ → List ℕ
-digits [] = []
-digits (c ∷ cs) = valued (symbol_of c) (digits cs)
+digits text = filter_map (λ c. digit_of (symbol_of c)) text
 
 -- the bytes of some digits: each has two, the higher first
 abbrev pub pairs : List ℕ → List ℕ
@@ -48,17 +48,18 @@ pairs [] = []
 pairs (high ∷ []) = []
 pairs (high ∷ low ∷ ds) = (high * 16 + low) ∷ pairs ds
 
--- the number of digits, unless a character is no digit and no white space
-abbrev pub counted : List ℕ → Result ℕ Fault
-counted text = cond (nat_lt (sound text) (length text)) (Err (NoDigit (sound text))) (Ok (length (digits text)))
+-- the bytes of some digits, unless half a byte is left
+abbrev pub whole : List ℕ → Result (List ℕ) Fault
+whole ds = cond (length ds % 2 == 1) (Err HalfByte) (Ok (pairs ds))
 
-abbrev pub whole : List ℕ → Result ℕ Fault → Result (List ℕ) Fault
-whole text (Err e) = Err e
-whole text (Ok n) = cond (n % 2 == 1) (Err HalfByte) (Ok (pairs (digits text)))
+-- a fault where there is such a character, and else the rest
+abbrev pub unless : Option ℕ → Result (List ℕ) Fault → Result (List ℕ) Fault
+unless (Some at) r = Err (NoDigit at)
+unless None r = r
 
 -- what a text means: its bytes, or its fault
 abbrev pub meaning : List ℕ → Result (List ℕ) Fault
-meaning text = whole text (counted text)
+meaning text = unless (unknown text) (whole (digits text))
 
 abbrev pub HasBytes : Result (List ℕ) Fault → Type 0
 HasBytes (Ok bs) = Unit {0}

@@ -1,8 +1,9 @@
 //! Bytes written as hexadecimal text.
 #![tactic(auto)]
 
-ghost use Rattle.std.specs.Prelude.{◌≡◌, length, IfOk};
-ghost use Rattle.hexadecimal.specs.Text.{symbol_of, digits, counted, pairs, Small, Told};
+ghost use Rattle.std.specs.Prelude.{◌≡◌, ◌<◌, length, All, IfOk};
+ghost use Rattle.hexadecimal.specs.Text.{symbol_of, digit_of, is_known, unknown, digits, pairs, Small, Told};
+ghost use Rattle.hexadecimal.specs.declared.Fault.TheVariants.{NoMemory};
 
 use std::alloc::{AllocError, Global};
 use std::error::Error;
@@ -31,6 +32,14 @@ impl fmt::Display for Fault {
 
 impl Error for Fault {}
 
+impl From<AllocError> for Fault {
+    ghost from_gives = { λ _ fault. fault ≡ NoMemory };
+
+    fn from(_error: AllocError) -> Self {
+        Self::NoMemory
+    }
+}
+
 // What a character of the text is.
 #[derive(Clone, Copy)]
 enum Symbol {
@@ -38,6 +47,23 @@ enum Symbol {
     Digit(u8),
     Space,
     Other,
+}
+
+impl Symbol {
+    fn digit(self) -> Option<u8>
+        ensures { result ≡ digit_of self }
+    {
+        match self {
+            Symbol::Digit(value) => Some(value),
+            Symbol::Space | Symbol::Other => None,
+        }
+    }
+
+    fn is_known(self) -> bool
+        ensures { result ≡ is_known self }
+    {
+        !matches!(self, Symbol::Other)
+    }
 }
 
 fn classify(character: u8) -> Symbol
@@ -53,37 +79,42 @@ fn classify(character: u8) -> Symbol
     }
 }
 
-// The number of digits in a text that has digits and white space alone.
-fn count(text: &[u8]) -> Result<usize, Fault>
-    ensures { result ≡ counted text.now }
+// Where the first character stands that is neither a digit nor white space.
+fn unknown(text: &[u8]) -> Option<usize>
+    ensures { result ≡ unknown text.now }
 {
-    let mut n = 0;
-    for (offset, character) in text.iter().enumerate() {
-        match classify(*character) {
-            Symbol::Digit(_) => n += 1,
-            Symbol::Space => {}
-            Symbol::Other => return Err(Fault::NoDigit { offset }),
-        }
-    }
-    Ok(n)
+    text.iter()
+        .position(|character| !classify(*character).is_known())
 }
 
-// The bytes that the digits of a text are in pairs. Half a byte at the end is dropped.
-fn gather(heap: Global, text: &[u8]) -> Result<Vec<u8>, AllocError>
-    ensures { IfOk result (λ v. v.items ≡ pairs (digits text.now)) }
+// The number of digits in a text.
+fn count(text: &[u8]) -> usize
+    ensures { result ≡ length (digits text.now) }
+{
+    text.iter()
+        .filter_map(|character| classify(*character).digit())
+        .count()
+}
+
+// The values of the digits of a text.
+fn values(heap: Global, text: &[u8]) -> Result<Vec<u8>, AllocError>
+    ensures all { IfOk result (λ v. v.items ≡ digits text.now) }
+    ensures small { IfOk result (λ v. All (λ d. d < 16) v.items) }
+{
+    text.iter()
+        .filter_map(|character| classify(*character).digit())
+        .collect(heap)
+}
+
+// The bytes that some digits are in pairs. Half a byte at the end is dropped.
+fn gather(heap: Global, mut digits: &[u8]) -> Result<Vec<u8>, AllocError>
+    requires { All (λ d. d < 16) digits.now }
+    ensures { IfOk result (λ v. v.items ≡ pairs digits.now) }
 {
     let mut bytes = Vec::new(heap);
-    let mut first = None;
-    for character in text {
-        if let Symbol::Digit(digit) = classify(*character) {
-            match first {
-                None => first = Some(digit),
-                Some(high) => {
-                    bytes.push(high * 16 + digit)?;
-                    first = None;
-                }
-            }
-        }
+    while let [high, low, rest @ ..] = digits {
+        bytes.push(high * 16 + low)?;
+        digits = rest;
     }
     Ok(bytes)
 }
@@ -93,11 +124,13 @@ fn gather(heap: Global, text: &[u8]) -> Result<Vec<u8>, AllocError>
 pub fn parse(heap: Global, text: &[u8]) -> Result<Vec<u8>, Fault>
     ensures { Told result text.now }
 {
-    if count(text)? % 2 == 1 {
+    if let Some(offset) = unknown(text) {
+        return Err(Fault::NoDigit { offset });
+    }
+    // Counted before they are kept, so that no memory is taken for a text that is refused.
+    if count(text) % 2 == 1 {
         return Err(Fault::HalfByte);
     }
-    match gather(heap, text) {
-        Ok(bytes) => Ok(bytes),
-        Err(_) => Err(Fault::NoMemory),
-    }
+    let digits = values(heap, text)?;
+    Ok(gather(heap, &digits)?)
 }

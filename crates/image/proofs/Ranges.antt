@@ -1,32 +1,20 @@
 -- Each record that is read is in range. Assumes nothing.
-use Rattle.std.proofs.Common.{◌≡◌, ℕ, ◌+◌, ◌*◌, ◌/◌, ◌%◌, min, Bool, true, false, cond, ◌&&◌, eqb, leb, List, [], ◌∷◌, length, get_or, drop, Ok, Err, Result, refl, ◌∙◌, subst, arith, length-drop}
-use native.Mathlib.Nat.{min-eq_left}
-use lib.Arith.{bin_ind}
-use lib.Bits.{bit_and, and_step, and_shr, and_mod, and_le_r}
-use Rattle.std.proofs.lemmas.Nat.{div-add-mod'}
+use Rattle.std.proofs.Common.{◌≡◌, ℕ, ◌+◌, ◌%◌, Bool, true, false, cond, ◌&&◌, eqb, leb, List, [], ◌∷◌, length, get_or, drop, Ok, Err, Result, refl, ap, ◌∙◌, subst, arith, length-drop}
+use Rattle.std.specs.Int.Bits.{bit_and, and_self}
+use Rattle.std.proofs.lemmas.Nat.{and_assoc}
 use Rattle.std.proofs.lemmas.Bool.{leb-true, eqb-true, and_parts}
 use Rattle.image.specs.declared.refusal.Reason.{Reason}
 use Rattle.image.specs.declared.refusal.Reason.TheVariants.{Form, Range}
 use Rattle.image.specs.Records.{Item, InRange, word_at, entry_of, data_of, start_of, record_of}
 
-nothing : {X : Type 0} → ◌≡◌ {A = ℕ} 0 1 → X
-nothing e = absurd (omega arith)
-
 -- what a mask has left, it leaves
 and_twice : (a m : ℕ) → bit_and (bit_and a m) m ≡ bit_and a m
-and_twice =
-    bin_ind (λ a. (m : ℕ) → bit_and (bit_and a m) m ≡ bit_and a m) (λ m. refl)
-    (λ a half m.
-    let x : ℕ = bit_and a m in
-    let high : x / 2 ≡ bit_and (a / 2) (m / 2) = and_shr a m 1 in
-    let low : min (x % 2) (m % 2) ≡ x % 2 = min-eq_left (omega (arith, and_mod a m 1, and_le_r (a % 2) (m % 2))) in
-    let again : bit_and (x / 2) (m / 2) ≡ x / 2 = simp high (half (m / 2)) in
-    and_step x m ∙ (λ j. again j * 2 + low j) ∙ div-add-mod' x 2)
+and_twice a m = and_assoc m a m ∙ ap (bit_and a) (and_self m)
 
 passed : (form range : Bool) (x i : Item) → (form ≡ true → range ≡ true → InRange x) → cond {A = Result Item Reason} form (cond range (Ok x) (Err Range)) (Err Form) ≡ Ok i → InRange i
 passed true true x i h e = subst InRange (cc) (h refl refl)
-passed true false x i h e = nothing cc
-passed false range x i h e = nothing cc
+passed true false x i h e = absurd (cc)
+passed false range x i h e = absurd (cc)
 
 entry_range : (bs : List ℕ) (i : Item) → entry_of bs ≡ Ok i → InRange i
 entry_range bs i e = passed (eqb (length bs) 14) (leb (get_or bs 0 0) 63) _ i (λ f r. (leb-true _ _ r, and_twice (word_at bs 2) 0xFFFFFFF0, and_twice (word_at bs 6) 0xFFFFFC0F, and_twice (word_at bs 10) 0xFFBF)) e
@@ -50,8 +38,8 @@ kind_range : (one two three : Bool) (body : List ℕ) (i : Item) → cond one (e
 kind_range true two three body i e = entry_range body i e
 kind_range false true three body i e = data_range body i e
 kind_range false false true body i e = start_range body i e
-kind_range false false false body i e = nothing cc
+kind_range false false false body i e = absurd (cc)
 
 pub in_range : (bs : List ℕ) (i : Item) → record_of bs ≡ Ok i → InRange i
-in_range [] i e = nothing cc
+in_range [] i e = absurd (cc)
 in_range (kind ∷ body) i e = kind_range (eqb kind 1) (eqb kind 2) (eqb kind 3) body i e

@@ -1,10 +1,13 @@
 -- What a reader and its answers say. Assumes nothing.
-use Rattle.std.specs.Prelude.{ℕ, ◌<◌, List, [], length, Some, None, Ok, Err, Option, Result}
+use Rattle.std.specs.Prelude.{◌≡◌, ℕ, ◌+◌, ◌<◌, List, [], length, Some, None, Ok, Err, Option, Result}
+use Rattle.std.specs.Option.{option_transpose}
 use Rattle.image.specs.declared.reader.Found.{Found}
 use Rattle.image.specs.declared.reader.Reader.{Reader}
 use Rattle.image.specs.declared.record.Record.{Record}
+use Rattle.image.specs.declared.records.Records.{Records}
+use Rattle.image.specs.declared.refusal.Reason.{Reason}
 use Rattle.image.specs.declared.refusal.Refusal.{Refusal}
-use Rattle.image.specs.Reading.{Place, Step, one, end, refused, more, walked}
+use Rattle.image.specs.Reading.{Place, Step, one, end, refused, fault, more, walked}
 use Rattle.image.specs.Records.{Item, InRange, is_start}
 use Rattle.image.specs.Values.{item}
 
@@ -25,10 +28,10 @@ fresh (Ok r) = remaining r
 fresh (Err e) = Err e
 
 -- what stands where a reader is, by the record that it finds there and the bytes after it
-abbrev pub seen : Result (Option Found) Refusal → Reader → Step
+abbrev pub seen : Result (Option Found) Reason → Reader → Step
 seen (Ok (Some f)) s = one (item f.«record») (record { rest = f.after.now; size = s.size; started = is_start (item f.«record») })
 seen (Ok None) s = end (place s)
-seen (Err e) s = refused e (place s)
+seen (Err why) s = fault (place s) why
 
 abbrev pub answered : Result (Option Record) Refusal → Reader → Step
 answered (Ok (Some r)) s = one (item r) (place s)
@@ -55,3 +58,26 @@ abbrev pub Ranges : Result (Option Record) Refusal → Type 0
 Ranges (Ok (Some r)) = InRange (item r)
 Ranges (Ok None) = Unit {0}
 Ranges (Err e) = Unit {0}
+
+-- nothing remains where the reader is gone
+abbrev pub remaining_of : Option Reader → Result (List Item) Refusal
+remaining_of (Some r) = remaining r
+remaining_of None = Ok []
+
+-- what a loop over the records has yet to see
+abbrev pub to_come : Records → Result (List Item) Refusal
+to_come s = remaining_of s.reader
+
+-- a byte more than the reader has yet to read, for the refusal that may come
+abbrev pub unread_of : Option Reader → ℕ
+unread_of (Some r) = unread r + 1
+unread_of None = 0
+
+-- a loop has at most so many turns left: each record takes a byte or more
+abbrev pub turns_left : Records → ℕ
+turns_left s = unread_of s.reader
+
+-- what a loop sees in a turn, with what is to come after it, is what was to come before it; a record is in range
+pub record Turn (s : Records) (seen : Option (Result Record Refusal)) (t : Records) : Type 0 where
+  pub whole : told (option_transpose seen) (to_come t) ≡ to_come s
+  pub ranges : Ranges (option_transpose seen)

@@ -7,8 +7,8 @@ use Rattle.image.specs.Records.{Item, entry, bytes, start}
 
 abbrev pub item : Record → Item
 item (Entry e) = entry e
-item (Data n a bs) = bytes n a bs.now
-item (Start c m) = start c m
+item (Data d) = bytes d.erpn d.address d.bytes.now
+item (Start s) = start s.counter s.msr
 
 abbrev pub meaning : Result Record Reason → Result Item Reason
 meaning (Ok r) = Ok (item r)

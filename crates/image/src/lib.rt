@@ -4,8 +4,10 @@
 mod parse;
 mod reader;
 mod record;
+mod records;
 mod refusal;
 
 pub use reader::{Reader, check};
-pub use record::{PageEntry, Record, real_address};
+pub use record::{Data, PageEntry, Record, Start, real_address};
+pub use records::Records;
 pub use refusal::{Reason, Refusal};

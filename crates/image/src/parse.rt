@@ -3,10 +3,10 @@ ghost use Rattle.std.specs.Prelude.{◌≡◌, ◌+◌, ◌≤◌, length};
 ghost use Rattle.image.specs.Records.{word_at, entry_of, data_of, start_of, record_of};
 ghost use Rattle.image.specs.Values.{meaning};
 
-use crate::record::{PageEntry, Record};
+use crate::record::{Data, PageEntry, Record, Start};
 use crate::refusal::Reason;
 
-// The bits of its three words that a page entry keeps.
+// The bits of its three words that a page entry keeps. They stand in other crates too: what reads images has no others below it.
 const WORD_0: u32 = 0xFFFF_FFF0;
 
 const WORD_1: u32 = 0xFFFF_FC0F;
@@ -55,11 +55,11 @@ fn data<'a>(body: &'a [u8]) -> Result<Record<'a>, Reason>
             if *erpn > 15 || address as usize % FRAME + bytes.len() > FRAME {
                 return Err(Reason::Range);
             }
-            Ok(Record::Data {
+            Ok(Record::Data(Data {
                 erpn: *erpn,
                 address,
                 bytes,
-            })
+            }))
         }
         _ => Err(Reason::Form),
     }
@@ -76,7 +76,7 @@ fn start<'a>(body: &'a [u8]) -> Result<Record<'a>, Reason>
     if counter % 4 != 0 || msr & MSR != msr {
         return Err(Reason::Range);
     }
-    Ok(Record::Start { counter, msr })
+    Ok(Record::Start(Start { counter, msr }))
 }
 
 /// The record whose kind and body these bytes are.

@@ -60,7 +60,9 @@ impl<'a> Reader<'a> {
         ensures falls { Falls result self.old self.new }
         ensures ranges { Ranges result }
     {
-        let Some(Found { record, after }) = self.peek()? else {
+        let offset = self.offset();
+        let found = self.peek().map_err(|reason| reason.at(offset))?;
+        let Some(Found { record, after }) = found else {
             return Ok(None);
         };
         self.rest = after;
@@ -69,39 +71,34 @@ impl<'a> Reader<'a> {
     }
 
     // The next record and the bytes after it, or `None` at the end of the image.
-    fn peek(&self) -> Result<Option<Found<'a>>, Refusal>
+    fn peek(&self) -> Result<Option<Found<'a>>, Reason>
         ensures { seen result self.now ≡ step (place self.now) }
     {
-        let offset = self.offset();
         let bytes = self.rest;
         match bytes {
             [] if self.started => Ok(None),
-            [] => Err(Reason::Order.at(offset)),
-            _ if self.started => Err(Reason::Order.at(offset)),
-            [_] => Err(Reason::Truncated.at(offset)),
+            [] => Err(Reason::Order),
+            _ if self.started => Err(Reason::Order),
+            [_] => Err(Reason::Truncated),
             [high, low, rest @ ..] => {
                 let length = usize::from(u16::from_be_bytes([*high, *low]));
-                if rest.len() < length {
-                    return Err(Reason::Truncated.at(offset));
-                }
-                let (front, after) = rest.split_at(length);
-                match parsed(front) {
-                    Ok(record) => Ok(Some(Found { record, after })),
-                    Err(reason) => Err(reason.at(offset)),
-                }
+                let (front, after) = rest.split_at_checked(length).ok_or(Reason::Truncated)?;
+                let record = parsed(front)?;
+                Ok(Some(Found { record, after }))
             }
         }
     }
 }
 
 /// Reads a whole image: the number of its records, or the first refusal.
+#[tactic(auto, using(crate::proofs::Law::law))]
 pub fn check(image: &[u8]) -> Result<usize, Refusal>
     ensures counts { result ≡ counted (records image.now) }
     ensures lawful { Law }
 {
-    let mut reader = Reader::open(image)?;
     let mut count = 0;
-    while let Some(_) = reader.next()? {
+    for record in Reader::open(image)? {
+        record?;
         count += 1;
     }
     Ok(count)

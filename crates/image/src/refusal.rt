@@ -9,19 +9,19 @@ use std::fmt;
 #[derive(Clone, Copy, PartialEq, Eq, Debug)]
 pub enum Reason {
     /// The image has no byte, or more than 65,535.
-    Size,
+    Size = 1,
     /// The version byte is not 1.
-    Version,
+    Version = 2,
     /// Fewer bytes are left than the two of a length, or than the length says.
-    Truncated,
+    Truncated = 3,
     /// The kind is unknown, or the length is none that its kind has.
-    Form,
+    Form = 4,
     /// A value is out of its range.
-    Range,
+    Range = 5,
     /// The bus denies the write of a byte of data. The reader has no bus and never gives it: it is for what loads an image.
-    Denied,
+    Denied = 6,
     /// Something stands after the start, or the image ends without a start.
-    Order,
+    Order = 7,
 }
 
 impl Reason {
@@ -29,15 +29,7 @@ impl Reason {
     pub fn number(self) -> u8
         ensures { result ≡ number_of self }
     {
-        match self {
-            Reason::Size => 1,
-            Reason::Version => 2,
-            Reason::Truncated => 3,
-            Reason::Form => 4,
-            Reason::Range => 5,
-            Reason::Denied => 6,
-            Reason::Order => 7,
-        }
+        self as u8
     }
 
     /// The refusal for this reason at an offset.

@@ -1,13 +1,16 @@
 // What the reader gives, held against the rules of the format.
 use crate::cases::CASES;
-use image::{PageEntry, Reader, Reason, Record, Refusal, check as check_image, real_address};
+use hexadecimal::parse;
+use image::{
+    Data, PageEntry, Reader, Reason, Record, Refusal, Start, check as check_image, real_address,
+};
 use std::alloc::{AllocError, Global};
 use std::test::Fail;
 
 #[test]
 fn each_image_gives_what_the_table_says(rt: HostRuntime) -> Result<(), Fail> {
     for case in &CASES {
-        let image = bytes(rt.alloc(), case.image)?;
+        let image = parse(rt.alloc(), case.image.as_bytes())?;
         let found = description(rt.alloc(), &image)?;
         assert_eq!(rt; found.as_str(), case.gives, "{}", case.image);
     }
@@ -17,7 +20,7 @@ fn each_image_gives_what_the_table_says(rt: HostRuntime) -> Result<(), Fail> {
 #[test]
 fn a_whole_image_is_checked_to_the_same_end(rt: HostRuntime) -> Result<(), Fail> {
     for case in &CASES {
-        let image = bytes(rt.alloc(), case.image)?;
+        let image = parse(rt.alloc(), case.image.as_bytes())?;
         match check_image(&image) {
             Ok(count) => assert_eq!(rt; case.gives.split(',').count(), count, "{}", case.image),
             Err(refusal) => {
@@ -88,23 +91,17 @@ fn records_are_parts_of_the_image(rt: HostRuntime) -> Result<(), Fail> {
         b"\x01\x00\x08\x02\x05\x00\x00\x03\xFE\x07\x08\x00\x09\x03\x00\x00\x00\x04\x00\x00\x00\x10";
     let mut reader = Reader::open(image)?;
     assert_eq!(rt; reader.offset(), 1);
-    let Some(
-        Record::Data {
-            erpn,
-            address,
-            bytes,
-        },
-    ) = reader.next()?
-    else {
+    let Some(Record::Data(data)) = reader.next()? else {
         return Err(Fail::new("no data"));
     };
-    assert_eq!(rt; (erpn, address), (5, 1022));
-    assert_eq!(rt; bytes, &image[9..11]);
+    assert_eq!(rt; (data.erpn, data.address), (5, 1022));
+    assert_eq!(rt; data.real_address(), 0x5_0000_03FE);
+    assert_eq!(rt; data.bytes, &image[9..11]);
     assert_eq!(rt; reader.offset(), 11);
-    let Some(Record::Start { counter, msr }) = reader.next()? else {
+    let Some(Record::Start(start)) = reader.next()? else {
         return Err(Fail::new("no start"));
     };
-    assert_eq!(rt; (counter, msr), (4, 16));
+    assert_eq!(rt; (start.counter, start.msr), (4, 16));
     assert_eq!(rt; reader.offset(), 22);
     assert!(rt; reader.next()?.is_none());
     assert_eq!(rt; reader.offset(), 22);
@@ -121,14 +118,22 @@ fn a_refusal_leaves_the_reader_where_it_stood(rt: HostRuntime) -> Result<(), Fai
 }
 
 #[test]
+fn a_refusal_ends_a_loop(rt: HostRuntime) -> Result<(), Fail> {
+    let mut records = Reader::open(&[1, 0, 1, 4])?.into_iter();
+    assert_eq!(rt; records.next(), Some(Err(Reason::Form.at(1))));
+    assert!(rt; records.next().is_none());
+    Ok(())
+}
+
+#[test]
 fn only_a_start_is_a_start(rt: HostRuntime) {
-    let start = Record::Start { counter: 0, msr: 0 };
+    let start = Record::Start(Start { counter: 0, msr: 0 });
     assert!(rt; start.is_start());
-    let data = Record::Data {
+    let data = Record::Data(Data {
         erpn: 0,
         address: 0,
         bytes: b"a",
-    };
+    });
     assert!(rt; !data.is_start());
     let entry = Record::Entry(PageEntry {
         number: 0,
@@ -184,53 +189,25 @@ fn refusals_say_their_reason(rt: HostRuntime) -> Result<(), Fail> {
     Ok(())
 }
 
-// The bytes that hexadecimal digits stand for; what is no digit is passed over.
-fn bytes(heap: Global, text: &str) -> Result<Vec<u8>, AllocError> {
-    let mut all = Vec::new(heap);
-    let mut high = None;
-    for byte in text.bytes() {
-        let Some(digit) = digit(byte) else {
-            continue;
-        };
-        match high {
-            None => {
-                high = Some(digit);
-            }
-            Some(first) => {
-                high = None;
-                all.push(first << 4 | digit)?;
-            }
-        }
-    }
-    Ok(all)
-}
-
-fn digit(byte: u8) -> Option<u8> {
-    match byte {
-        b'0'..=b'9' => Some(byte - b'0'),
-        b'A'..=b'F' => Some(byte - b'A' + 10),
-        _ => None,
-    }
-}
-
 // The records of an image and the refusal where there is one, with commas between.
 fn description(heap: Global, image: &[u8]) -> Result<String, AllocError> {
     let mut text = String::new(heap);
     match Reader::open(image) {
-        Ok(mut reader) => describe(heap, &mut reader, &mut text)?,
+        Ok(reader) => describe(heap, reader, &mut text)?,
         Err(refusal) => text.push_str(refused(heap, refusal)?.as_str())?,
     }
     Ok(text)
 }
 
-fn describe(heap: Global, reader: &mut Reader, text: &mut String) -> Result<(), AllocError> {
-    loop {
-        match reader.next() {
-            Ok(Some(record)) => push_part(text, shown(heap, record)?.as_str())?,
-            Ok(None) => return Ok(()),
-            Err(refusal) => return push_part(text, refused(heap, refusal)?.as_str()),
-        }
+fn describe(heap: Global, reader: Reader, text: &mut String) -> Result<(), AllocError> {
+    for found in reader {
+        let part = match found {
+            Ok(record) => shown(heap, record)?,
+            Err(refusal) => refused(heap, refusal)?,
+        };
+        push_part(text, part.as_str())?;
     }
+    Ok(())
 }
 
 fn push_part(text: &mut String, part: &str) -> Result<(), AllocError> {
@@ -257,18 +234,20 @@ fn shown(heap: Global, record: Record) -> Result<String, AllocError> {
                 word2,
             },
         ) => { format!(in heap; "entry {number} tid {tid} {word0:08X} {word1:08X} {word2:08X}") }
-        Record::Data {
-            erpn,
-            address,
-            bytes,
-        } => {
+        Record::Data(
+            Data {
+                erpn,
+                address,
+                bytes,
+            },
+        ) => {
             let mut text = format!(in heap; "data {erpn} {address:08X}")?;
             for byte in bytes {
                 text.push_str(format!(in heap; " {byte:02X}")?.as_str())?;
             }
             Ok(text)
         }
-        Record::Start { counter, msr } => format!(in heap; "start {counter:08X} {msr:08X}"),
+        Record::Start(Start { counter, msr }) => format!(in heap; "start {counter:08X} {msr:08X}"),
     }
 }
 

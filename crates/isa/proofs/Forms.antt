@@ -45,16 +45,16 @@ pub record Whole (w p a b c x : ℕ) (last : Bool) : Type 0 where
   pub is_extended : extended_of (low_of w) ≡ x
   pub is_last : last_of (low_of w) ≡ last
 
-bit-last : (low : ℕ) → bit (last_of low) ≡ low % 2
-bit-last low = grind (arith, nat_tests)
+bit_last : (low : ℕ) → bit (last_of low) ≡ low % 2
+bit_last low = grind (arith, nat_tests)
 
 low_parts : (c x : ℕ) (last : Bool) (low : ℕ) → x < 1024 → c * 2048 + x * 2 + bit last ≡ low → (third_of low ≡ c) × (extended_of low ≡ x) × (last_of low ≡ last)
 low_parts c x true low h e = (omega arith, omega arith, grind (arith, nat_tests))
 low_parts c x false low h e = (omega arith, omega arith, grind (arith, nat_tests))
 
-pub extended-reads : (p a b c x : ℕ) (last : Bool) (w : ℕ) → extended_form p a b c x last ≡ Some w → Whole w p a b c x last
+pub extended_reads : (p a b c x : ℕ) (last : Bool) (w : ℕ) → extended_form p a b c x last ≡ Some w → Whole w p a b c x last
 unfolding extended_form
-extended-reads p a b c x last w h =
+extended_reads p a b c x last w h =
     let low : ℕ = c * 2048 + x * 2 + bit last in
     let s = given_some (ltb c 32 && ltb x 1024) (half_form p a b low) w h in
     let r = half_reads p a b low w s.1 in
@@ -68,10 +68,10 @@ extended-reads p a b c x last w h =
       is_last = l.2;
     }
 
-pub extended-whole : (w : ℕ) → w < 2 ^ 32 → extended_form (primary_of w) (first_of w) (second_of w) (third_of (low_of w)) (extended_of (low_of w)) (last_of (low_of w)) ≡ Some w
+pub extended_whole : (w : ℕ) → w < 2 ^ 32 → extended_form (primary_of w) (first_of w) (second_of w) (third_of (low_of w)) (extended_of (low_of w)) (last_of (low_of w)) ≡ Some w
 unfolding extended_form
-extended-whole w h =
-    let b = bit-last (low_of w) in
+extended_whole w h =
+    let b = bit_last (low_of w) in
     let e : third_of (low_of w) * 2048 + extended_of (low_of w) * 2 + bit (last_of (low_of w)) ≡ low_of w = omega arith in
     let t : ltb (third_of (low_of w)) 32 ≡ true = lt-ltb (third_of (low_of w)) 32 (omega arith) in
     let u : ltb (extended_of (low_of w)) 1024 ≡ true = lt-ltb (extended_of (low_of w)) 1024 (omega arith) in

@@ -1,5 +1,5 @@
 -- What a listed opcode stands for, and the opcode of what is listed. Assumes nothing.
-use Rattle.std.proofs.Common.{◌≡◌, ℕ, ◌+◌, ◌*◌, ◌%◌, Bool, true, false, ◌&&◌, eqb, List, [], ◌∷◌, refl, ap, ◌∙◌}
+use Rattle.std.proofs.Common.{◌≡◌, ℕ, ◌+◌, ◌*◌, ◌%◌, Bool, true, false, ◌&&◌, eqb, Some, List, [], ◌∷◌, refl, subst}
 use Rattle.std.proofs.lemmas.Bool.{and_parts, eqb-true}
 use Rattle.isa.specs.Fields.{bit}
 use Rattle.isa.specs.Listed.{find, listed_primary, listed_nineteen, listed_extended, primary_at, nineteen_at, extended_at}
@@ -53,18 +53,17 @@ every_row t [] = true
 every_row t (row ∷ rest) = t row.0 row.1 && every_row t rest
 
 -- and so at what is found there
-find_tested : {X : Type 0} (t : ℕ → X → Bool) (none : X) (k : ℕ) (rows : List (ℕ × X)) → t k none ≡ true → every_row t rows ≡ true → t k (find none k rows) ≡ true
-find_tested t none k [] h e = h
-find_tested {X} t none k (row ∷ rest) h e =
-    go (eqb k row.0) refl (find_tested t none k rest h (and_parts (t row.0 row.1) (every_row t rest) e).1)
+find_tested : {X : Type 0} (t : ℕ → X → Bool) (k : ℕ) (rows : List (ℕ × X)) (x : X) → every_row t rows ≡ true → find k rows ≡ Some x → t k x ≡ true
+find_tested t k [] x h is = cc
+find_tested {X} t k (row ∷ rest) x h is =
+    go (eqb k row.0) refl (find_tested t k rest x (and_parts (t row.0 row.1) (every_row t rest) h).1) is
   where
-    go : (b : Bool) → eqb k row.0 ≡ b → t k (find none k rest) ≡ true → t k (elim b [ true ↦ row.1 | false ↦ find none k rest ]) ≡ true
-    go true q r = ap (λ n. t n row.1) (eqb-true k row.0 q) ∙ (and_parts (t row.0 row.1) (every_row t rest) e).0
-    go false q r = r
+    go : (b : Bool) → eqb k row.0 ≡ b → (find k rest ≡ Some x → t k x ≡ true) → elim b [ true ↦ Some row.1 | false ↦ find k rest ] ≡ Some x → t k x ≡ true
+    go true q r e = let n = eqb-true k row.0 q in let p = (and_parts (t row.0 row.1) (every_row t rest) h).0 in cc
+    go false q r e = r e
 
 -- whether a form has an opcode: of what an opcode stands for, it has that opcode
 abbrev pub primary_numbered : ℕ → Primary → Bool
-primary_numbered k primary.Illegal = true
 primary_numbered k (primary.Immediate op) = eqb k (immediate_opcode op)
 primary_numbered k (primary.LogicalImmediate op) = eqb k (logical_immediate_opcode op)
 primary_numbered k (primary.CompareImmediate comparison) = eqb k (compare_immediate_opcode comparison)
@@ -78,22 +77,20 @@ primary_numbered k primary.Branch = eqb k 18
 primary_numbered k primary.Nineteen = eqb k 19
 primary_numbered k primary.Extended = eqb k 31
 
-pub primary_right : (k : ℕ) → primary_numbered k (primary_at k) ≡ true
+pub primary_right : (k : ℕ) (form : Primary) → primary_at k ≡ Some form → primary_numbered k form ≡ true
 unfolding primary_at
-primary_right k = find_tested primary_numbered primary.Illegal k listed_primary refl refl
+primary_right k form is = find_tested primary_numbered k listed_primary form refl is
 
 abbrev pub nineteen_numbered : ℕ → Nineteen → Bool
-nineteen_numbered k nineteen.Illegal = true
 nineteen_numbered k (nineteen.Branch target) = eqb k (branch_extended target)
 nineteen_numbered k (nineteen.ConditionLogical op) = eqb k (condition_extended op)
 nineteen_numbered k nineteen.MoveConditionField = eqb k 0
 nineteen_numbered k (nineteen.Bare op) = eqb (bare_opcode op) 19 && eqb k (bare_extended op)
 
-pub nineteen_right : (k : ℕ) → nineteen_numbered k (nineteen_at k) ≡ true
-nineteen_right k = find_tested nineteen_numbered nineteen.Illegal k listed_nineteen refl refl
+pub nineteen_right : (k : ℕ) (form : Nineteen) → nineteen_at k ≡ Some form → nineteen_numbered k form ≡ true
+nineteen_right k form is = find_tested nineteen_numbered k listed_nineteen form refl is
 
 abbrev pub extended_numbered : ℕ → Extended → Bool
-extended_numbered k extended.Illegal = true
 extended_numbered k (extended.Arithmetic op oe) = eqb k (arithmetic_extended op + 512 * bit oe)
 extended_numbered k (extended.ArithmeticUnary op oe) = eqb k (arithmetic_unary_extended op + 512 * bit oe)
 extended_numbered k (extended.MultiplyHigh op) = eqb k (multiply_high_extended op)
@@ -118,99 +115,99 @@ extended_numbered k extended.Barrier = eqb k 854
 extended_numbered k (extended.Bare op) = eqb (bare_opcode op) 31 && eqb k (bare_extended op)
 extended_numbered k extended.Select = eqb (k % 32) 15
 
-pub extended-right : (k : ℕ) → extended_numbered k (extended_at k) ≡ true
+pub extended_right : (k : ℕ) (form : Extended) → extended_at k ≡ Some form → extended_numbered k form ≡ true
 unfolding extended_at
-extended-right k = go (eqb (k % 32) 15) refl
+extended_right k form is = go (eqb (k % 32) 15) refl is
   where
-    go : (b : Bool) → eqb (k % 32) 15 ≡ b → extended_numbered k (elim b [ true ↦ extended.Select | false ↦ find extended.Illegal k listed_extended ]) ≡ true
-    go true q = q
-    go false q = find_tested extended_numbered extended.Illegal k listed_extended refl refl
+    go : (b : Bool) → eqb (k % 32) 15 ≡ b → elim b [ true ↦ Some extended.Select | false ↦ find k listed_extended ] ≡ Some form → extended_numbered k form ≡ true
+    go true q e = let s : extended.Select ≡ form = cc in subst (λ x. extended_numbered k x ≡ true) s q
+    go false q e = find_tested extended_numbered k listed_extended form refl e
 
 -- and the form of an opcode: one computation for each operation
-pub immediate-at : (op : ImmediateOp) → primary_at (immediate_opcode op) ≡ primary.Immediate op
+pub immediate_at : (op : ImmediateOp) → primary_at (immediate_opcode op) ≡ Some (primary.Immediate op)
 unfolding primary_at
-immediate-at = elim [ Addi ↦ refl | Addis ↦ refl | Addic ↦ refl | AddicRecord ↦ refl | Subfic ↦ refl | Mulli ↦ refl ]
+immediate_at = elim [ Addi ↦ refl | Addis ↦ refl | Addic ↦ refl | AddicRecord ↦ refl | Subfic ↦ refl | Mulli ↦ refl ]
 
-pub logical-immediate-at : (op : LogicalImmediateOp) → primary_at (logical_immediate_opcode op) ≡ primary.LogicalImmediate op
+pub logical_immediate_at : (op : LogicalImmediateOp) → primary_at (logical_immediate_opcode op) ≡ Some (primary.LogicalImmediate op)
 unfolding primary_at
-logical-immediate-at = elim [ AndiRecord ↦ refl | AndisRecord ↦ refl | Ori ↦ refl | Oris ↦ refl | Xori ↦ refl | Xoris ↦ refl ]
+logical_immediate_at = elim [ AndiRecord ↦ refl | AndisRecord ↦ refl | Ori ↦ refl | Oris ↦ refl | Xori ↦ refl | Xoris ↦ refl ]
 
-pub compare-immediate-at : (op : Comparison) → primary_at (compare_immediate_opcode op) ≡ primary.CompareImmediate op
+pub compare_immediate_at : (op : Comparison) → primary_at (compare_immediate_opcode op) ≡ Some (primary.CompareImmediate op)
 unfolding primary_at
-compare-immediate-at = elim [ Signed ↦ refl | Unsigned ↦ refl ]
+compare_immediate_at = elim [ Signed ↦ refl | Unsigned ↦ refl ]
 
-pub rotate-at : (op : RotateOp) → primary_at (rotate_opcode op) ≡ primary.Rotate op
+pub rotate_at : (op : RotateOp) → primary_at (rotate_opcode op) ≡ Some (primary.Rotate op)
 unfolding primary_at
-rotate-at = elim [ Rlwimi ↦ refl | Rlwinm ↦ refl | Rlwnm ↦ refl ]
+rotate_at = elim [ Rlwimi ↦ refl | Rlwinm ↦ refl | Rlwnm ↦ refl ]
 
-pub load_displaced_at : (update : Bool) (op : LoadOp) → primary_at (load_opcode op + bit update) ≡ primary.Load op update
+pub load_displaced_at : (update : Bool) (op : LoadOp) → primary_at (load_opcode op + bit update) ≡ Some (primary.Load op update)
 unfolding primary_at
 load_displaced_at true = elim [ Lbz ↦ refl | Lhz ↦ refl | Lha ↦ refl | Lwz ↦ refl ]
 load_displaced_at false = elim [ Lbz ↦ refl | Lhz ↦ refl | Lha ↦ refl | Lwz ↦ refl ]
 
-pub store_displaced_at : (update : Bool) (op : StoreOp) → primary_at (store_opcode op + bit update) ≡ primary.Store op update
+pub store_displaced_at : (update : Bool) (op : StoreOp) → primary_at (store_opcode op + bit update) ≡ Some (primary.Store op update)
 unfolding primary_at
 store_displaced_at true = elim [ Stb ↦ refl | Sth ↦ refl | Stw ↦ refl ]
 store_displaced_at false = elim [ Stb ↦ refl | Sth ↦ refl | Stw ↦ refl ]
 
-pub branch-at : (op : BranchTarget) → nineteen_at (branch_extended op) ≡ nineteen.Branch op
-branch-at = elim [ Link ↦ refl | Count ↦ refl ]
+pub branch_at : (op : BranchTarget) → nineteen_at (branch_extended op) ≡ Some (nineteen.Branch op)
+branch_at = elim [ Link ↦ refl | Count ↦ refl ]
 
-pub condition_at : (op : ConditionOp) → nineteen_at (condition_extended op) ≡ nineteen.ConditionLogical op
+pub condition_at : (op : ConditionOp) → nineteen_at (condition_extended op) ≡ Some (nineteen.ConditionLogical op)
 condition_at = elim [ Crand ↦ refl | Crandc ↦ refl | Creqv ↦ refl | Crnand ↦ refl | Crnor ↦ refl | Cror ↦ refl | Crorc ↦ refl | Crxor ↦ refl ]
 
-pub arithmetic-at : (oe : Bool) (op : ArithmeticOp) → extended_at (arithmetic_extended op + 512 * bit oe) ≡ extended.Arithmetic op oe
+pub arithmetic_at : (oe : Bool) (op : ArithmeticOp) → extended_at (arithmetic_extended op + 512 * bit oe) ≡ Some (extended.Arithmetic op oe)
 unfolding extended_at
-arithmetic-at true = elim [ Add ↦ refl | Addc ↦ refl | Adde ↦ refl | Subf ↦ refl | Subfc ↦ refl | Subfe ↦ refl | Mullw ↦ refl | Divw ↦ refl | Divwu ↦ refl ]
-arithmetic-at false = elim [ Add ↦ refl | Addc ↦ refl | Adde ↦ refl | Subf ↦ refl | Subfc ↦ refl | Subfe ↦ refl | Mullw ↦ refl | Divw ↦ refl | Divwu ↦ refl ]
+arithmetic_at true = elim [ Add ↦ refl | Addc ↦ refl | Adde ↦ refl | Subf ↦ refl | Subfc ↦ refl | Subfe ↦ refl | Mullw ↦ refl | Divw ↦ refl | Divwu ↦ refl ]
+arithmetic_at false = elim [ Add ↦ refl | Addc ↦ refl | Adde ↦ refl | Subf ↦ refl | Subfc ↦ refl | Subfe ↦ refl | Mullw ↦ refl | Divw ↦ refl | Divwu ↦ refl ]
 
-pub arithmetic_unary-at : (oe : Bool) (op : ArithmeticUnaryOp) → extended_at (arithmetic_unary_extended op + 512 * bit oe) ≡ extended.ArithmeticUnary op oe
+pub arithmetic_unary_at : (oe : Bool) (op : ArithmeticUnaryOp) → extended_at (arithmetic_unary_extended op + 512 * bit oe) ≡ Some (extended.ArithmeticUnary op oe)
 unfolding extended_at
-arithmetic_unary-at true = elim [ Addme ↦ refl | Addze ↦ refl | Subfme ↦ refl | Subfze ↦ refl | Neg ↦ refl ]
-arithmetic_unary-at false = elim [ Addme ↦ refl | Addze ↦ refl | Subfme ↦ refl | Subfze ↦ refl | Neg ↦ refl ]
+arithmetic_unary_at true = elim [ Addme ↦ refl | Addze ↦ refl | Subfme ↦ refl | Subfze ↦ refl | Neg ↦ refl ]
+arithmetic_unary_at false = elim [ Addme ↦ refl | Addze ↦ refl | Subfme ↦ refl | Subfze ↦ refl | Neg ↦ refl ]
 
-pub multiply_high-at : (op : MultiplyHighOp) → extended_at (multiply_high_extended op) ≡ extended.MultiplyHigh op
+pub multiply_high_at : (op : MultiplyHighOp) → extended_at (multiply_high_extended op) ≡ Some (extended.MultiplyHigh op)
 unfolding extended_at
-multiply_high-at = elim [ Mulhw ↦ refl | Mulhwu ↦ refl ]
+multiply_high_at = elim [ Mulhw ↦ refl | Mulhwu ↦ refl ]
 
-pub logical-at : (op : LogicalOp) → extended_at (logical_extended op) ≡ extended.Logical op
+pub logical_at : (op : LogicalOp) → extended_at (logical_extended op) ≡ Some (extended.Logical op)
 unfolding extended_at
-logical-at = elim [ And ↦ refl | Andc ↦ refl | Nand ↦ refl | Or ↦ refl | Orc ↦ refl | Nor ↦ refl | Xor ↦ refl | Eqv ↦ refl | Slw ↦ refl | Srw ↦ refl | Sraw ↦ refl ]
+logical_at = elim [ And ↦ refl | Andc ↦ refl | Nand ↦ refl | Or ↦ refl | Orc ↦ refl | Nor ↦ refl | Xor ↦ refl | Eqv ↦ refl | Slw ↦ refl | Srw ↦ refl | Sraw ↦ refl ]
 
-pub logical_unary-at : (op : LogicalUnaryOp) → extended_at (logical_unary_extended op) ≡ extended.LogicalUnary op
+pub logical_unary_at : (op : LogicalUnaryOp) → extended_at (logical_unary_extended op) ≡ Some (extended.LogicalUnary op)
 unfolding extended_at
-logical_unary-at = elim [ Extsb ↦ refl | Extsh ↦ refl | Cntlzw ↦ refl ]
+logical_unary_at = elim [ Extsb ↦ refl | Extsh ↦ refl | Cntlzw ↦ refl ]
 
-pub compare-at : (op : Comparison) → extended_at (compare_extended op) ≡ extended.Compare op
+pub compare_at : (op : Comparison) → extended_at (compare_extended op) ≡ Some (extended.Compare op)
 unfolding extended_at
-compare-at = elim [ Signed ↦ refl | Unsigned ↦ refl ]
+compare_at = elim [ Signed ↦ refl | Unsigned ↦ refl ]
 
-pub load_at : (update : Bool) (op : LoadOp) → extended_at (load_extended op + 32 * bit update) ≡ extended.Load op update
+pub load_at : (update : Bool) (op : LoadOp) → extended_at (load_extended op + 32 * bit update) ≡ Some (extended.Load op update)
 unfolding extended_at
 load_at true = elim [ Lbz ↦ refl | Lhz ↦ refl | Lha ↦ refl | Lwz ↦ refl ]
 load_at false = elim [ Lbz ↦ refl | Lhz ↦ refl | Lha ↦ refl | Lwz ↦ refl ]
 
-pub store_at : (update : Bool) (op : StoreOp) → extended_at (store_extended op + 32 * bit update) ≡ extended.Store op update
+pub store_at : (update : Bool) (op : StoreOp) → extended_at (store_extended op + 32 * bit update) ≡ Some (extended.Store op update)
 unfolding extended_at
 store_at true = elim [ Stb ↦ refl | Sth ↦ refl | Stw ↦ refl ]
 store_at false = elim [ Stb ↦ refl | Sth ↦ refl | Stw ↦ refl ]
 
-pub load_indexed_at : (op : LoadIndexedOp) → extended_at (load_indexed_extended op) ≡ extended.LoadIndexed op
+pub load_indexed_at : (op : LoadIndexedOp) → extended_at (load_indexed_extended op) ≡ Some (extended.LoadIndexed op)
 unfolding extended_at
 load_indexed_at = elim [ Lhbrx ↦ refl | Lwbrx ↦ refl | Lwarx ↦ refl ]
 
-pub store_indexed_at : (op : StoreIndexedOp) → extended_at (store_indexed_extended op) ≡ extended.StoreIndexed op
+pub store_indexed_at : (op : StoreIndexedOp) → extended_at (store_indexed_extended op) ≡ Some (extended.StoreIndexed op)
 unfolding extended_at
 store_indexed_at = elim [ Sthbrx ↦ refl | Stwbrx ↦ refl ]
 
-pub move_at : (op : MoveOp) → extended_at (move_extended op) ≡ extended.Move op
+pub move_at : (op : MoveOp) → extended_at (move_extended op) ≡ Some (extended.Move op)
 unfolding extended_at
 move_at = elim [ Mfcr ↦ refl | Mfmsr ↦ refl | Mtmsr ↦ refl | Wrtee ↦ refl ]
 
-pub special_at : (op : SpecialOp) → extended_at (special_extended op) ≡ extended.MoveSpecial op
+pub special_at : (op : SpecialOp) → extended_at (special_extended op) ≡ Some (extended.MoveSpecial op)
 unfolding extended_at
 special_at = elim [ Mfspr ↦ refl | Mtspr ↦ refl ]
 
-pub tlb_word-at : (op : TlbWordOp) → extended_at (tlb_word_extended op) ≡ extended.TlbWord op
+pub tlb_word_at : (op : TlbWordOp) → extended_at (tlb_word_extended op) ≡ Some (extended.TlbWord op)
 unfolding extended_at
-tlb_word-at = elim [ Tlbre ↦ refl | Tlbwe ↦ refl ]
+tlb_word_at = elim [ Tlbre ↦ refl | Tlbwe ↦ refl ]

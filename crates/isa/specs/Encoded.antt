@@ -1,23 +1,17 @@
 -- The word of an instruction, or none where no word stands for it. Assumes nothing.
-use Rattle.std.specs.Prelude.{ℕ, ◌+◌, ◌*◌, ◌/◌, ◌%◌, true, false, ◌&&◌, Some, Option, nat_lt}
+use Rattle.std.specs.Prelude.{ℕ, ◌+◌, ◌*◌, ◌/◌, ◌%◌, Bool, true, false, ◌&&◌, Some, Option, nat_lt}
 use Rattle.isa.specs.Fields.{bit, given, half_form, extended_form}
 use Rattle.isa.specs.Valid.{load_valid, store_valid, options_valid, branch_valid}
 use Rattle.isa.specs.Opcodes.{immediate_opcode, logical_immediate_opcode, compare_immediate_opcode, rotate_opcode, load_opcode, store_opcode, branch_extended, condition_extended, bare_opcode, bare_extended, arithmetic_extended, arithmetic_unary_extended, multiply_high_extended, logical_extended, logical_unary_extended, compare_extended, load_extended, store_extended, load_indexed_extended, store_indexed_extended, move_extended, special_extended, tlb_word_extended}
-use Rattle.isa.specs.declared.instruction.Load.{Load as LoadFormat}
-use Rattle.isa.specs.declared.instruction.Store.{Store as StoreFormat}
 use Rattle.isa.specs.declared.instruction.Offset.{Offset}
 use Rattle.isa.specs.declared.instruction.Offset.TheVariants.{Displacement, Index}
 use Rattle.isa.specs.declared.instruction.Instruction.{Instruction}
 use Rattle.isa.specs.declared.instruction.Instruction.TheVariants.{Immediate, LogicalImmediate, CompareImmediate, TrapImmediate, Load, Store, Branch, BranchConditional, BranchRegister, SystemCall, Rotate, ConditionLogical, MoveConditionField, Bare, Arithmetic, ArithmeticUnary, MultiplyHigh, Logical, LogicalUnary, ShiftRightImmediate, Select, Compare, Trap, LoadIndexed, StoreIndexed, StoreConditional, MoveFromXer, Move, WriteExternalEnable, MoveToConditionFields, MoveSpecial, TlbWord, TlbSearch, Barrier}
 
--- the word of a load or a store, by its offset
-abbrev pub load_word : LoadFormat → Offset → Option ℕ
-load_word i (Displacement d) = half_form (load_opcode i.op + bit i.update) i.rt i.ra d
-load_word i (Index rb) = extended_form 31 i.rt i.ra rb (load_extended i.op + 32 * bit i.update) false
-
-abbrev pub store_word : StoreFormat → Offset → Option ℕ
-store_word i (Displacement d) = half_form (store_opcode i.op + bit i.update) i.rs i.ra d
-store_word i (Index rb) = extended_form 31 i.rs i.ra rb (store_extended i.op + 32 * bit i.update) false
+-- the word of a load or a store by its offset: of its opcodes without update, the register that it moves and its base
+abbrev pub access_word : ℕ → ℕ → ℕ → ℕ → Offset → Bool → Option ℕ
+access_word p x register ra (Displacement d) update = half_form (p + bit update) register ra d
+access_word p x register ra (Index rb) update = extended_form 31 register ra rb (x + 32 * bit update) false
 
 -- the forms check registers and opcodes; what a field is made of is checked here
 abbrev pub encoded : Instruction → Option ℕ
@@ -26,8 +20,8 @@ encoded (LogicalImmediate i) = half_form (logical_immediate_opcode i.op) i.rs i.
 encoded (CompareImmediate i) =
     given (nat_lt i.field 8) (half_form (compare_immediate_opcode i.comparison) (i.field * 4) i.ra i.immediate)
 encoded (TrapImmediate i) = half_form 3 i.conditions i.ra i.immediate
-encoded (Load i) = given (load_valid i.update i.rt i.ra) (load_word i i.offset)
-encoded (Store i) = given (store_valid i.update i.ra) (store_word i i.offset)
+encoded (Load i) = given (load_valid i.update i.rt i.ra) (access_word (load_opcode i.op) (load_extended i.op) i.rt i.ra i.offset i.update)
+encoded (Store i) = given (store_valid i.update i.ra) (access_word (store_opcode i.op) (store_extended i.op) i.rs i.ra i.offset i.update)
 encoded (Branch i) =
     given (nat_lt i.displacement 0x1000000) (Some (0x48000000 + i.displacement * 4 + bit i.absolute * 2 + bit i.link))
 encoded (BranchConditional i) =

@@ -1,5 +1,5 @@
--- The listed instructions, and what each opcode stands for. Assumes nothing.
-use Rattle.std.specs.Prelude.{ℕ, ◌+◌, ◌%◌, Bool, true, false, List, [], ◌∷◌, ◌++◌, ◌==◌}
+-- The listed instructions, and what each opcode stands for, if anything. Assumes nothing.
+use Rattle.std.specs.Prelude.{ℕ, ◌+◌, ◌%◌, Bool, true, false, Some, None, Option, List, [], ◌∷◌, ◌++◌, ◌==◌}
 use Rattle.isa.specs.Opcodes.{immediate_opcode, logical_immediate_opcode, compare_immediate_opcode, rotate_opcode, load_opcode, store_opcode, branch_extended, condition_extended, bare_extended, arithmetic_extended, arithmetic_unary_extended, multiply_high_extended, logical_extended, logical_unary_extended, compare_extended, load_extended, store_extended, load_indexed_extended, store_indexed_extended, move_extended, special_extended, tlb_word_extended}
 use Rattle.isa.specs.declared.instruction.ImmediateOp.TheVariants.{Addi, Addis, Addic, AddicRecord, Subfic, Mulli}
 use Rattle.isa.specs.declared.instruction.LogicalImmediateOp.TheVariants.{AndiRecord, AndisRecord, Ori, Oris, Xori, Xoris}
@@ -27,10 +27,10 @@ use Rattle.isa.specs.declared.table.Nineteen.TheVariants as nineteen
 use Rattle.isa.specs.declared.table.Extended.{Extended}
 use Rattle.isa.specs.declared.table.Extended.TheVariants as extended
 
--- what stands at a number in a list of forms, each with its number
-abbrev pub find : {X : Type 0} → X → ℕ → List (ℕ × X) → X
-find none k [] = none
-find none k (row ∷ rest) = elim (k == row.0) [ true ↦ row.1 | false ↦ find none k rest ]
+-- what stands at a number in a list of forms, each with its number, if anything does
+abbrev pub find : {X : Type 0} → ℕ → List (ℕ × X) → Option X
+find k [] = None
+find k (row ∷ rest) = elim (k == row.0) [ true ↦ Some row.1 | false ↦ find k rest ]
 
 -- the rows of operations: one each, or two, without a flag and, some numbers on, with it
 abbrev pub plain : {O X : Type 0} → (O → X) → (O → ℕ) → List O → List (ℕ × X)
@@ -53,8 +53,8 @@ listed_primary =
     ++ (3, primary.TrapImmediate) ∷ (16, primary.BranchConditional) ∷ (17, primary.SystemCall) ∷ (18, primary.Branch)
     ∷ (19, primary.Nineteen) ∷ (31, primary.Extended) ∷ []
 
-unfoldable pub primary_at : ℕ → Primary
-primary_at k = find primary.Illegal k listed_primary
+unfoldable pub primary_at : ℕ → Option Primary
+primary_at k = find k listed_primary
 
 -- the extended opcodes under the primary opcode 19
 abbrev pub listed_nineteen : List (ℕ × Nineteen)
@@ -64,8 +64,8 @@ listed_nineteen =
     ++ plain nineteen.Bare bare_extended (Rfi ∷ Isync ∷ [])
     ++ (0, nineteen.MoveConditionField) ∷ []
 
-abbrev pub nineteen_at : ℕ → Nineteen
-nineteen_at k = find nineteen.Illegal k listed_nineteen
+abbrev pub nineteen_at : ℕ → Option Nineteen
+nineteen_at k = find k listed_nineteen
 
 -- the extended opcodes under the primary opcode 31: with OE an arithmetic one is 512 more, with update a load or a store is 32 more
 abbrev pub listed_extended : List (ℕ × Extended)
@@ -89,5 +89,5 @@ listed_extended =
     ∷ (854, extended.Barrier) ∷ (914, extended.TlbSearch) ∷ []
 
 -- isel has each number whose low five bits are 15: the five bits above them are the condition bit
-unfoldable pub extended_at : ℕ → Extended
-extended_at k = elim (k % 32 == 15) [ true ↦ extended.Select | false ↦ find extended.Illegal k listed_extended ]
+unfoldable pub extended_at : ℕ → Option Extended
+extended_at k = elim (k % 32 == 15) [ true ↦ Some extended.Select | false ↦ find k listed_extended ]

@@ -1,6 +1,6 @@
 //! The fields of an instruction word, and the forms by which fields make a word.
 ghost use Rattle.std.specs.Prelude.{◌≡◌, ℕ, ◌<◌};
-ghost use Rattle.isa.specs.Fields.{fields_of, given, half_form, extended_form};
+ghost use Rattle.isa.specs.Fields.{fields_of, half_form, extended_form};
 
 /// The fields of a word: two of five bits, and the low half, which an extended form splits into a third field of five
 /// bits, the extended opcode and the last bit.
@@ -29,14 +29,8 @@ pub fn split(word: u32) -> Fields
     }
 }
 
-/// What stands under a condition, and nothing where it fails.
-pub fn given<T: Drop>(valid: bool, value: Option<T>) -> Option<T>
-    ensures { result ≡ given valid value }
-{
-    if valid { value } else { None }
-}
-
 /// The word of a primary opcode, two fields and a low half; none where one of them is too large.
+#[tactic(auto, unfolding(crate::specs::Fields::half_form))]
 pub fn half_form(primary: u32, first: u32, second: u32, low: u32) -> Option<u32>
     requires { primary < 64 }
     ensures { result ≡ half_form primary first second low }
@@ -49,6 +43,7 @@ pub fn half_form(primary: u32, first: u32, second: u32, low: u32) -> Option<u32>
 }
 
 /// The word of a primary opcode, three fields, an extended opcode and the last bit; none where one of them is too large.
+#[tactic(auto, unfolding(crate::specs::Fields::extended_form))]
 pub fn extended_form(
     primary: u32,
     first: u32,

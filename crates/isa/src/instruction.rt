@@ -1,194 +1,198 @@
 //! The instructions of the readout core, one case for each format. Immediates and displacements are the bits of their
 //! field, not yet extended by their sign; `oe` and `rc` are the bits OE and Rc.
+//!
+//! The number of an operation is its extended opcode, without OE and update, or its primary opcode where it has no other.
 
 /// The number of a register, below 32 in every decoded instruction.
 pub type Register = u32;
 
 /// Arithmetic with a 16-bit immediate.
-#[derive(Clone, Copy)]
+#[derive(Clone, Copy, PartialEq, Eq, Debug)]
 pub enum ImmediateOp {
-    Addi,
-    Addis,
-    Addic,
-    AddicRecord,
-    Subfic,
-    Mulli,
+    Addi = 14,
+    Addis = 15,
+    Addic = 12,
+    AddicRecord = 13,
+    Subfic = 8,
+    Mulli = 7,
 }
 
 /// Logic with a 16-bit immediate.
-#[derive(Clone, Copy)]
+#[derive(Clone, Copy, PartialEq, Eq, Debug)]
 pub enum LogicalImmediateOp {
-    AndiRecord,
-    AndisRecord,
-    Ori,
-    Oris,
-    Xori,
-    Xoris,
+    AndiRecord = 28,
+    AndisRecord = 29,
+    Ori = 24,
+    Oris = 25,
+    Xori = 26,
+    Xoris = 27,
 }
 
 /// Arithmetic on two registers, with an overflow form.
-#[derive(Clone, Copy)]
+#[derive(Clone, Copy, PartialEq, Eq, Debug)]
 pub enum ArithmeticOp {
-    Add,
-    Addc,
-    Adde,
-    Subf,
-    Subfc,
-    Subfe,
-    Mullw,
-    Divw,
-    Divwu,
+    Add = 266,
+    Addc = 10,
+    Adde = 138,
+    Subf = 40,
+    Subfc = 8,
+    Subfe = 136,
+    Mullw = 235,
+    Divw = 491,
+    Divwu = 459,
 }
 
 /// Arithmetic on one register, with an overflow form.
-#[derive(Clone, Copy)]
+#[derive(Clone, Copy, PartialEq, Eq, Debug)]
 pub enum ArithmeticUnaryOp {
-    Addme,
-    Addze,
-    Subfme,
-    Subfze,
-    Neg,
+    Addme = 234,
+    Addze = 202,
+    Subfme = 232,
+    Subfze = 200,
+    Neg = 104,
 }
 
 /// The upper half of a product.
-#[derive(Clone, Copy)]
+#[derive(Clone, Copy, PartialEq, Eq, Debug)]
 pub enum MultiplyHighOp {
-    Mulhw,
-    Mulhwu,
+    Mulhw = 75,
+    Mulhwu = 11,
 }
 
 /// Logic and shifts on two registers.
-#[derive(Clone, Copy)]
+#[derive(Clone, Copy, PartialEq, Eq, Debug)]
 pub enum LogicalOp {
-    And,
-    Andc,
-    Nand,
-    Or,
-    Orc,
-    Nor,
-    Xor,
-    Eqv,
-    Slw,
-    Srw,
-    Sraw,
+    And = 28,
+    Andc = 60,
+    Nand = 476,
+    Or = 444,
+    Orc = 412,
+    Nor = 124,
+    Xor = 316,
+    Eqv = 284,
+    Slw = 24,
+    Srw = 536,
+    Sraw = 792,
 }
 
 /// Logic on one register.
-#[derive(Clone, Copy)]
+#[derive(Clone, Copy, PartialEq, Eq, Debug)]
 pub enum LogicalUnaryOp {
-    Extsb,
-    Extsh,
-    Cntlzw,
+    Extsb = 954,
+    Extsh = 922,
+    Cntlzw = 26,
 }
 
 /// Rotations under a mask.
-#[derive(Clone, Copy)]
+#[derive(Clone, Copy, PartialEq, Eq, Debug)]
 pub enum RotateOp {
-    Rlwimi,
-    Rlwinm,
-    Rlwnm,
+    Rlwimi = 20,
+    Rlwinm = 21,
+    Rlwnm = 23,
 }
 
 /// How a comparison reads its words.
-#[derive(Clone, Copy)]
+#[derive(Clone, Copy, PartialEq, Eq, Debug)]
 pub enum Comparison {
-    Signed,
-    Unsigned,
+    Signed = 0,
+    Unsigned = 32,
 }
 
 /// Loads with a displacement or an index, with an update form.
-#[derive(Clone, Copy)]
+#[derive(Clone, Copy, PartialEq, Eq, Debug)]
 pub enum LoadOp {
-    Lbz,
-    Lhz,
-    Lha,
-    Lwz,
+    Lbz = 87,
+    Lhz = 279,
+    Lha = 343,
+    Lwz = 23,
 }
 
 /// Stores with a displacement or an index, with an update form.
-#[derive(Clone, Copy)]
+#[derive(Clone, Copy, PartialEq, Eq, Debug)]
 pub enum StoreOp {
-    Stb,
-    Sth,
-    Stw,
+    Stb = 215,
+    Sth = 407,
+    Stw = 151,
 }
 
 /// Loads with an index only.
-#[derive(Clone, Copy)]
+#[derive(Clone, Copy, PartialEq, Eq, Debug)]
 pub enum LoadIndexedOp {
-    Lhbrx,
-    Lwbrx,
-    Lwarx,
+    Lhbrx = 790,
+    Lwbrx = 534,
+    Lwarx = 20,
 }
 
 /// Stores with an index only.
-#[derive(Clone, Copy)]
+#[derive(Clone, Copy, PartialEq, Eq, Debug)]
 pub enum StoreIndexedOp {
-    Sthbrx,
-    Stwbrx,
+    Sthbrx = 918,
+    Stwbrx = 662,
 }
 
 /// What is added to the base for an address: a displacement of 16 bits, or a register.
-#[derive(Clone, Copy)]
+#[derive(Clone, Copy, PartialEq, Eq, Debug)]
 pub enum Offset {
     Displacement(u32),
     Index(Register),
 }
 
 /// The register that a branch takes its target from.
-#[derive(Clone, Copy)]
+#[derive(Clone, Copy, PartialEq, Eq, Debug)]
 pub enum BranchTarget {
-    Link,
-    Count,
+    Link = 16,
+    Count = 528,
 }
 
 /// Logic on bits of the condition register.
-#[derive(Clone, Copy)]
+#[derive(Clone, Copy, PartialEq, Eq, Debug)]
 pub enum ConditionOp {
-    Crand,
-    Crandc,
-    Creqv,
-    Crnand,
-    Crnor,
-    Cror,
-    Crorc,
-    Crxor,
+    Crand = 257,
+    Crandc = 129,
+    Creqv = 289,
+    Crnand = 225,
+    Crnor = 33,
+    Cror = 449,
+    Crorc = 417,
+    Crxor = 193,
 }
 
 /// Moves between a general register and the condition register or the machine state.
-#[derive(Clone, Copy)]
+#[derive(Clone, Copy, PartialEq, Eq, Debug)]
 pub enum MoveOp {
-    Mfcr,
-    Mfmsr,
-    Mtmsr,
-    Wrtee,
+    Mfcr = 19,
+    Mfmsr = 83,
+    Mtmsr = 146,
+    Wrtee = 131,
 }
 
 /// Moves between a general register and a special purpose register.
-#[derive(Clone, Copy)]
+#[derive(Clone, Copy, PartialEq, Eq, Debug)]
 pub enum SpecialOp {
-    Mfspr,
-    Mtspr,
+    Mfspr = 339,
+    Mtspr = 467,
 }
 
 /// Reading and writing a word of a page entry.
-#[derive(Clone, Copy)]
+#[derive(Clone, Copy, PartialEq, Eq, Debug)]
 pub enum TlbWordOp {
-    Tlbre,
-    Tlbwe,
+    Tlbre = 946,
+    Tlbwe = 978,
 }
 
 /// Instructions without operands, other than the system call.
-#[derive(Clone, Copy)]
+#[derive(Clone, Copy, PartialEq, Eq, Debug)]
 pub enum BareOp {
-    Rfi,
-    Isync,
-    Msync,
-    Tlbsync,
+    Rfi = 50,
+    Isync = 150,
+    Msync = 598,
+    Tlbsync = 566,
 }
 
+// Formats of one shape stay apart where a register's name differs: rt is written, rs is read, and logic writes ra.
+
 /// addi, addis, addic, addic., subfic, mulli.
-#[derive(Clone, Copy)]
+#[derive(Clone, Copy, PartialEq, Eq, Debug)]
 pub struct Immediate {
     pub op: ImmediateOp,
     pub rt: Register,
@@ -197,7 +201,7 @@ pub struct Immediate {
 }
 
 /// andi., andis., ori, oris, xori, xoris.
-#[derive(Clone, Copy)]
+#[derive(Clone, Copy, PartialEq, Eq, Debug)]
 pub struct LogicalImmediate {
     pub op: LogicalImmediateOp,
     pub ra: Register,
@@ -206,7 +210,7 @@ pub struct LogicalImmediate {
 }
 
 /// cmpi, cmpli, into the condition field.
-#[derive(Clone, Copy)]
+#[derive(Clone, Copy, PartialEq, Eq, Debug)]
 pub struct CompareImmediate {
     pub comparison: Comparison,
     pub field: u32,
@@ -215,7 +219,7 @@ pub struct CompareImmediate {
 }
 
 /// twi, with the conditions that trap.
-#[derive(Clone, Copy)]
+#[derive(Clone, Copy, PartialEq, Eq, Debug)]
 pub struct TrapImmediate {
     pub conditions: u32,
     pub ra: Register,
@@ -223,7 +227,7 @@ pub struct TrapImmediate {
 }
 
 /// lbz, lhz, lha, lwz, with u, x and ux.
-#[derive(Clone, Copy)]
+#[derive(Clone, Copy, PartialEq, Eq, Debug)]
 pub struct Load {
     pub op: LoadOp,
     pub rt: Register,
@@ -233,7 +237,7 @@ pub struct Load {
 }
 
 /// stb, sth, stw, with u, x and ux.
-#[derive(Clone, Copy)]
+#[derive(Clone, Copy, PartialEq, Eq, Debug)]
 pub struct Store {
     pub op: StoreOp,
     pub rs: Register,
@@ -243,7 +247,7 @@ pub struct Store {
 }
 
 /// b, with AA and LK; the displacement counts words.
-#[derive(Clone, Copy)]
+#[derive(Clone, Copy, PartialEq, Eq, Debug)]
 pub struct Branch {
     pub displacement: u32,
     pub absolute: bool,
@@ -251,7 +255,7 @@ pub struct Branch {
 }
 
 /// bc, with AA and LK; the displacement counts words.
-#[derive(Clone, Copy)]
+#[derive(Clone, Copy, PartialEq, Eq, Debug)]
 pub struct BranchConditional {
     pub options: u32,
     pub bit: u32,
@@ -261,7 +265,7 @@ pub struct BranchConditional {
 }
 
 /// bclr, bcctr, with LK.
-#[derive(Clone, Copy)]
+#[derive(Clone, Copy, PartialEq, Eq, Debug)]
 pub struct BranchRegister {
     pub target: BranchTarget,
     pub options: u32,
@@ -270,7 +274,7 @@ pub struct BranchRegister {
 }
 
 /// rlwimi, rlwinm, rlwnm; the amount is a number, and a register's for rlwnm.
-#[derive(Clone, Copy)]
+#[derive(Clone, Copy, PartialEq, Eq, Debug)]
 pub struct Rotate {
     pub op: RotateOp,
     pub ra: Register,
@@ -282,7 +286,7 @@ pub struct Rotate {
 }
 
 /// crand, crandc, creqv, crnand, crnor, cror, crorc, crxor.
-#[derive(Clone, Copy)]
+#[derive(Clone, Copy, PartialEq, Eq, Debug)]
 pub struct ConditionLogical {
     pub op: ConditionOp,
     pub target: u32,
@@ -291,14 +295,14 @@ pub struct ConditionLogical {
 }
 
 /// mcrf.
-#[derive(Clone, Copy)]
+#[derive(Clone, Copy, PartialEq, Eq, Debug)]
 pub struct MoveConditionField {
     pub to: u32,
     pub from: u32,
 }
 
 /// add, addc, adde, subf, subfc, subfe, mullw, divw, divwu, with OE and Rc.
-#[derive(Clone, Copy)]
+#[derive(Clone, Copy, PartialEq, Eq, Debug)]
 pub struct Arithmetic {
     pub op: ArithmeticOp,
     pub rt: Register,
@@ -309,7 +313,7 @@ pub struct Arithmetic {
 }
 
 /// addme, addze, subfme, subfze, neg, with OE and Rc.
-#[derive(Clone, Copy)]
+#[derive(Clone, Copy, PartialEq, Eq, Debug)]
 pub struct ArithmeticUnary {
     pub op: ArithmeticUnaryOp,
     pub rt: Register,
@@ -319,7 +323,7 @@ pub struct ArithmeticUnary {
 }
 
 /// mulhw, mulhwu, with Rc.
-#[derive(Clone, Copy)]
+#[derive(Clone, Copy, PartialEq, Eq, Debug)]
 pub struct MultiplyHigh {
     pub op: MultiplyHighOp,
     pub rt: Register,
@@ -329,7 +333,7 @@ pub struct MultiplyHigh {
 }
 
 /// and, andc, nand, or, orc, nor, xor, eqv, slw, srw, sraw, with Rc.
-#[derive(Clone, Copy)]
+#[derive(Clone, Copy, PartialEq, Eq, Debug)]
 pub struct Logical {
     pub op: LogicalOp,
     pub ra: Register,
@@ -339,7 +343,7 @@ pub struct Logical {
 }
 
 /// extsb, extsh, cntlzw, with Rc.
-#[derive(Clone, Copy)]
+#[derive(Clone, Copy, PartialEq, Eq, Debug)]
 pub struct LogicalUnary {
     pub op: LogicalUnaryOp,
     pub ra: Register,
@@ -348,7 +352,7 @@ pub struct LogicalUnary {
 }
 
 /// srawi, with Rc.
-#[derive(Clone, Copy)]
+#[derive(Clone, Copy, PartialEq, Eq, Debug)]
 pub struct ShiftRightImmediate {
     pub ra: Register,
     pub rs: Register,
@@ -357,7 +361,7 @@ pub struct ShiftRightImmediate {
 }
 
 /// isel, by a bit of the condition register.
-#[derive(Clone, Copy)]
+#[derive(Clone, Copy, PartialEq, Eq, Debug)]
 pub struct Select {
     pub rt: Register,
     pub ra: Register,
@@ -366,7 +370,7 @@ pub struct Select {
 }
 
 /// cmp, cmpl, into the condition field.
-#[derive(Clone, Copy)]
+#[derive(Clone, Copy, PartialEq, Eq, Debug)]
 pub struct Compare {
     pub comparison: Comparison,
     pub field: u32,
@@ -375,7 +379,7 @@ pub struct Compare {
 }
 
 /// tw, with the conditions that trap.
-#[derive(Clone, Copy)]
+#[derive(Clone, Copy, PartialEq, Eq, Debug)]
 pub struct Trap {
     pub conditions: u32,
     pub ra: Register,
@@ -383,7 +387,7 @@ pub struct Trap {
 }
 
 /// lhbrx, lwbrx, lwarx.
-#[derive(Clone, Copy)]
+#[derive(Clone, Copy, PartialEq, Eq, Debug)]
 pub struct LoadIndexed {
     pub op: LoadIndexedOp,
     pub rt: Register,
@@ -392,7 +396,7 @@ pub struct LoadIndexed {
 }
 
 /// sthbrx, stwbrx.
-#[derive(Clone, Copy)]
+#[derive(Clone, Copy, PartialEq, Eq, Debug)]
 pub struct StoreIndexed {
     pub op: StoreIndexedOp,
     pub rs: Register,
@@ -401,7 +405,7 @@ pub struct StoreIndexed {
 }
 
 /// stwcx.
-#[derive(Clone, Copy)]
+#[derive(Clone, Copy, PartialEq, Eq, Debug)]
 pub struct StoreConditional {
     pub rs: Register,
     pub ra: Register,
@@ -409,21 +413,21 @@ pub struct StoreConditional {
 }
 
 /// mfcr, mfmsr, mtmsr, wrtee.
-#[derive(Clone, Copy)]
+#[derive(Clone, Copy, PartialEq, Eq, Debug)]
 pub struct Move {
     pub op: MoveOp,
     pub register: Register,
 }
 
 /// mtcrf, with a mask of eight condition fields.
-#[derive(Clone, Copy)]
+#[derive(Clone, Copy, PartialEq, Eq, Debug)]
 pub struct MoveToConditionFields {
     pub mask: u32,
     pub rs: Register,
 }
 
 /// mfspr, mtspr, with the number of the special purpose register.
-#[derive(Clone, Copy)]
+#[derive(Clone, Copy, PartialEq, Eq, Debug)]
 pub struct MoveSpecial {
     pub op: SpecialOp,
     pub register: Register,
@@ -431,16 +435,17 @@ pub struct MoveSpecial {
 }
 
 /// tlbre, tlbwe, with the number of the word.
-#[derive(Clone, Copy)]
+#[derive(Clone, Copy, PartialEq, Eq, Debug)]
 pub struct TlbWord {
     pub op: TlbWordOp,
     pub register: Register,
     pub ra: Register,
+    // A number and no enum, as it stands in the word: an enum would ask a caller of `encode` to rule out the others.
     pub word: u32,
 }
 
 /// tlbsx, tlbsx.
-#[derive(Clone, Copy)]
+#[derive(Clone, Copy, PartialEq, Eq, Debug)]
 pub struct TlbSearch {
     pub rt: Register,
     pub ra: Register,
@@ -449,7 +454,7 @@ pub struct TlbSearch {
 }
 
 /// An instruction: one case for each format.
-#[derive(Clone, Copy)]
+#[derive(Clone, Copy, PartialEq, Eq, Debug)]
 pub enum Instruction {
     Immediate(Immediate),
     LogicalImmediate(LogicalImmediate),

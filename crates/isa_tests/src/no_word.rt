@@ -1,6 +1,7 @@
 //! Instructions that no word stands for: each is one that has a word, but for one of its fields.
-use isa::encode;
 use isa::instruction::*;
+use isa::{decode, encode};
+use std::test::Fail;
 
 const ADDI: Immediate = Immediate {
     op: ImmediateOp::Addi,
@@ -130,7 +131,7 @@ const TLBRE: TlbWord = TlbWord {
     word: 2,
 };
 
-/// Instructions that have a word.
+/// Instructions that have a word, which reads as the instruction again.
 static SOUND: [Instruction; 22] = [
     Instruction::Immediate(ADDI),
     Instruction::LogicalImmediate(ORI),
@@ -338,10 +339,12 @@ static UNSOUND: [(Instruction, &str); 33] = [
 ];
 
 #[test]
-fn has_a_word(rt: HostRuntime) {
+fn has_a_word(rt: HostRuntime) -> Result<(), Fail> {
     for instruction in &SOUND {
-        assert!(rt; encode(*instruction).is_some());
+        let word = encode(*instruction).ok_or("no word")?;
+        assert_eq!(rt; decode(word), Some(*instruction));
     }
+    Ok(())
 }
 
 #[test]

@@ -11,25 +11,15 @@ ghost use Rattle.loader.specs.Loading.{serves, accepts, screened, checked, entry
 
 use bus::{Bus, Direction};
 use core465::Core;
-use image::{PageEntry, Reader, Reason, Record, Refusal, real_address};
+use image::{Data, PageEntry, Reader, Reason, Record, Refusal, Start};
 use pages::Entry;
 use placing::place;
 
-/// Whether the bus serves the write of each of these bytes, from the address on.
-// The loop goes over places: what the bytes are does not count.
-fn serves<B: Bus>(bus: &B, address: u64, bytes: &[u8]) -> bool
-    requires { address < 2 ^ 40 }
-    ensures { result ≡ serves (B.Bus.model bus.now) address bytes.now }
+/// Whether the bus serves the write of each byte of some data.
+fn serves<B: Bus>(bus: &B, data: Data) -> bool
+    ensures { result ≡ serves (B.Bus.model bus.now) (data.erpn * 2 ^ 32 + data.address) data.bytes.now }
 {
-    for k in 0..bytes.len() {
-        if bus
-            .denial(Direction::Write, address + k as u64, 1)
-            .is_some()
-        {
-            return false;
-        }
-    }
-    true
+    (data.real_address()..).zip(data.bytes).all(|(address, _)| bus.denial(Direction::Write, address, 1).is_none())
 }
 
 /// Whether the bus takes the data of a record, if it has data.
@@ -37,13 +27,8 @@ fn accepts<B: Bus>(bus: &B, found: Record) -> bool
     ensures { result ≡ accepts (B.Bus.model bus.now) (item found.entry) }
 {
     match found {
-        Record::Entry(_) => true,
-        Record::Data {
-            erpn,
-            address,
-            bytes,
-        } => serves(bus, real_address(erpn, address), bytes),
-        Record::Start { .. } => true,
+        Record::Data(data) => serves(bus, data),
+        Record::Entry(_) | Record::Start(_) => true,
     }
 }
 
@@ -83,14 +68,10 @@ fn apply<B: Bus>(core: &mut Core, bus: &mut B, found: Record)
 {
     match found {
         Record::Entry(page) => core.set_entry(u32::from(page.number), entry_of(page)),
-        Record::Data {
-            erpn,
-            address,
-            bytes,
-        } => {
-            let _ = place(bus, real_address(erpn, address), bytes);
+        Record::Data(data) => {
+            let _ = place(bus, data.real_address(), data.bytes);
         }
-        Record::Start { counter, msr } => {
+        Record::Start(Start { counter, msr }) => {
             core.set_counter(counter);
             core.set_msr_word(msr);
         }

@@ -1,23 +1,32 @@
--- What a few bytes written one by one make of the whole.
-use Rattle.std.proofs.Common.{◌≡◌, ℕ, ◌+◌, ◌/◌, ◌%◌, ◌<◌, ◌≤◌, true, false, cond, eqb, ◌≢◌, ◌⊎◌, List, length, set, inl, inr, arith, length-set, get_or-set_other, get_or-set_same}
+-- What a few bytes written over a part of the whole make of it.
+use Rattle.std.proofs.Common.{◌≡◌, ℕ, zero, suc, ◌+◌, ◌-◌, ◌/◌, ◌%◌, ◌<◌, ◌≤◌, ◌&&◌, cond, nat_le, nat_lt, List, [], ◌∷◌, length, take, drop, ◌∙◌, div-one, arith}
+use Rattle.std.proofs.lemmas.List.{places}
+use Rattle.std.proofs.lemmas.Grind.{common_steps}
+use borrow.Rule.Slice.PartMut.{put_mid}
 use Rattle.memory.specs.Memory.{byte_of}
-use Rattle.bus.specs.Model.{put_at}
-use Rattle.std.proofs.lemmas.Bool.Decides.{eqb_tells}
+use Rattle.bus.specs.Model.{digit, put_at}
 
--- one byte
-byte_set : (s : List ℕ) (i x k : ℕ) → i < length s → byte_of (set s i x) k ≡ cond (eqb k i) (x % 256) (byte_of s k)
-byte_set s i x k h = by (eqb_tells k i)
-  where
-    by : ((eqb k i ≡ true) × (k ≡ i)) ⊎ ((eqb k i ≡ false) × (k ≢ i)) → byte_of (set s i x) k ≡ cond (eqb k i) (x % 256) (byte_of s k)
-    by (inl (t, e)) = rw t (simp (e, get_or-set_same s i x 0 h))
-    by (inr (t, n)) = simp (t, get_or-set_other s i k x 0 n)
+put_byte : (s ys : List ℕ) (o w k : ℕ) → length ys ≡ w → o + w ≤ length s →
+    byte_of (put_mid o w s ys) k ≡ cond (nat_le o k && nat_lt k (o + w)) (byte_of ys (k - o)) (byte_of s k)
+put_byte s ys o w k e h = grind (arith, common_steps, places)
 
--- the two bytes of a halfword
-pub put_2 : (s : List ℕ) (o v k : ℕ) → o + 2 ≤ length s →
-    byte_of (set (set s o (v / 256 % 256)) (o + 1) (v % 256)) k ≡ put_at (byte_of s) o 2 v k
-put_2 s o v k h = grind (arith, byte_set, length-set)
+-- the bytes of a word
+abbrev word : ℕ → List ℕ
+word v = v / 16777216 % 256 ∷ v / 65536 % 256 ∷ v / 256 % 256 ∷ v % 256 ∷ []
 
--- the four bytes of a word
-pub put_4 : (s : List ℕ) (o v k : ℕ) → o + 4 ≤ length s →
-    byte_of (set (set (set (set s o (v / 16777216 % 256)) (o + 1) (v / 65536 % 256)) (o + 2) (v / 256 % 256)) (o + 3) (v % 256)) k ≡ put_at (byte_of s) o 4 v k
-put_4 s o v k h = grind (arith, byte_set, length-set)
+word_at : (v i : ℕ) → i < 4 → byte_of (word v) i ≡ digit 4 v i
+word_at v zero h = grind arith
+word_at v (suc zero) h = grind arith
+word_at v (suc (suc zero)) h = grind arith
+word_at v (suc (suc (suc zero))) h = grind (arith, div-one v)
+word_at v (suc (suc (suc (suc i)))) h = absurd (omega arith)
+
+last_at : (v w j : ℕ) → w ≤ 4 → j < w → byte_of (take (4 - (4 - w)) (drop (4 - w) (word v))) j ≡ digit w v j
+last_at v w j h l = let e = word_at v (4 - w + j) (omega arith) in let x : 4 - 1 - (4 - w + j) ≡ w - 1 - j = omega arith in grind (arith, places)
+
+-- the last bytes of a word
+pub put_low : (s ys : List ℕ) (o w n v k : ℕ) → w ≤ 4 → o + w ≤ length s → n ≡ w →
+    ys ≡ take (4 - (4 - w)) (drop (4 - w) (word v)) → byte_of (put_mid o n s ys) k ≡ put_at (byte_of s) o w v k
+put_low s ys o w n v k l h p q =
+    let e : length ys ≡ n = simp q (grind (arith, common_steps)) in
+    put_byte s ys o n k e (omega arith) ∙ simp (p, q) (let d = last_at v w (k - o) l in grind arith)

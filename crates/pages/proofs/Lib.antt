@@ -1,4 +1,2 @@
-pub mod Masks
 pub mod Sizes
-pub mod Searching
 pub mod Known

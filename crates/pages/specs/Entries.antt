@@ -1,6 +1,6 @@
 -- Page entries: the bits that they keep, and the rewriting of a word.
 use Rattle.std.specs.Prelude.{◌≡◌, ℕ, List, bit_and}
-use Rattle.std.specs.List.{AllByRecursion}
+use Rattle.std.specs.List.{All}
 use Rattle.pages.specs.declared.entry.Entry.{Entry}
 use Rattle.pages.specs.declared.entry.Word.{Word}
 use Rattle.pages.specs.declared.entry.Word.TheVariants.{PageId, Xlat, Attrib}
@@ -31,7 +31,7 @@ abbrev pub Kept : Entry → Type 0
 Kept e = kept_of e ≡ e
 
 abbrev pub AllKept : List Entry → Type 0
-AllKept es = AllByRecursion Kept es
+AllKept es = All Kept es
 
 -- one of the three words
 abbrev pub word_of : Entry → Word → ℕ

@@ -1,6 +1,6 @@
 -- Which entry an address matches.
-use Rattle.std.specs.Prelude.{◌≡◌, ℕ, suc, ◌*◌, ◌/◌, ◌%◌, ◌^◌, ◌<◌, Bool, true, false, cond, not, ◌&&◌, ◌||◌, List, [], ◌∷◌, length, Some, None, Option, ◌==◌, bit_and, nat_le, slice_index_or}
-use Rattle.std.specs.Option.{option_map}
+use Rattle.std.specs.Prelude.{◌≡◌, ℕ, ◌*◌, ◌/◌, ◌%◌, ◌^◌, ◌<◌, Bool, true, false, not, ◌&&◌, ◌||◌, List, length, Some, None, Option, ◌==◌, bit_and, nat_le, slice_index_or}
+use Rattle.std.specs.List.{position_from}
 use Rattle.pages.specs.Entries.{blank}
 use Rattle.pages.specs.declared.entry.Entry.{Entry}
 use Rattle.pages.specs.declared.matching.VirtualAddress.{VirtualAddress}
@@ -45,5 +45,4 @@ Lowest es a (Some n) = (n < length es) × (matches (slice_index_or es n blank) a
 
 -- the number of the first entry that the address matches
 unfoldable pub found : List Entry → VirtualAddress → Option ℕ
-found [] a = None
-found (e ∷ es) a = cond (matches e a) (Some 0) (option_map suc (found es a))
+found es a = position_from (λ e. matches e a) 0 es

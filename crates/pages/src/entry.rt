@@ -6,15 +6,6 @@ ghost use Rattle.pages.specs.Words.{word_numbered};
 use std::error::Error;
 use std::fmt;
 
-// The bits that an entry keeps of its TID and of each word.
-const TID_BITS: u32 = 0xFF;
-
-const WORD0_BITS: u32 = 0xFFFF_FFF0;
-
-const WORD1_BITS: u32 = 0xFFFF_FC0F;
-
-const WORD2_BITS: u32 = 0xFFBF;
-
 /// A page entry. Some bits of its words have no meaning, and an entry of the table holds zeros there.
 #[derive(Clone, Copy, PartialEq, Eq, Default, Debug)]
 pub struct Entry {
@@ -68,16 +59,29 @@ impl TryFrom<u32> for Word {
 }
 
 impl Entry {
+    /// The bits that an entry keeps of its TID.
+    pub const TID_BITS: u32 = 0xFF;
+
+    /// The bits that it keeps of its first word.
+    pub const WORD0_BITS: u32 = 0xFFFF_FFF0;
+
+    /// The bits that it keeps of its second word.
+    pub const WORD1_BITS: u32 = 0xFFFF_FC0F;
+
+    /// The bits that it keeps of its third word.
+    pub const WORD2_BITS: u32 = 0xFFBF;
+
     /// The entry with only the bits that an entry keeps.
+    #[tactic(auto, using(std::proofs::lemmas::Nat::and_assoc))]
     pub(crate) fn kept(self) -> Entry
         ensures value { result ≡ kept_of self }
         ensures kept { Kept result }
     {
         Entry {
-            tid: self.tid & TID_BITS,
-            word0: self.word0 & WORD0_BITS,
-            word1: self.word1 & WORD1_BITS,
-            word2: self.word2 & WORD2_BITS,
+            tid: self.tid & Entry::TID_BITS,
+            word0: self.word0 & Entry::WORD0_BITS,
+            word1: self.word1 & Entry::WORD1_BITS,
+            word2: self.word2 & Entry::WORD2_BITS,
         }
     }
 
@@ -100,17 +104,18 @@ impl Entry {
     }
 
     /// Rewrites one of the three words, and with the first one the TID. Bits that an entry does not keep are dropped.
+    #[tactic(auto, using(std::proofs::lemmas::Nat::and_assoc))]
     pub(crate) fn rewrite(&mut self, word: Word, value: u32, tid: u32)
         ensures value { self.new ≡ rewritten self.old word value tid }
         ensures kept { Kept self.old → Kept self.new }
     {
         match word {
             Word::PageId => {
-                self.word0 = value & WORD0_BITS;
-                self.tid = tid & TID_BITS;
+                self.word0 = value & Entry::WORD0_BITS;
+                self.tid = tid & Entry::TID_BITS;
             }
-            Word::Xlat => self.word1 = value & WORD1_BITS,
-            Word::Attrib => self.word2 = value & WORD2_BITS,
+            Word::Xlat => self.word1 = value & Entry::WORD1_BITS,
+            Word::Attrib => self.word2 = value & Entry::WORD2_BITS,
         }
     }
 }

@@ -1,11 +1,11 @@
 // Which entry an address matches.
-ghost use Rattle.std.specs.Prelude.{◌≡◌, ℕ, ◌*◌, ◌^◌, ◌<◌, true, length};
-ghost use Rattle.pages.specs.Matching.{has, size_of, is_page, page_bytes, agrees, matches, Lowest};
+ghost use Rattle.std.specs.Prelude.{◌≡◌, ℕ, ◌*◌, ◌^◌, ◌<◌, true};
+ghost use Rattle.pages.specs.Matching.{has, size_of, is_page, page_bytes, agrees, matches};
 
 use crate::entry::Entry;
 
 /// What the search for an entry is asked: an effective address, in the address space and the process that it is used in.
-#[derive(Clone, Copy)]
+#[derive(Clone, Copy, PartialEq, Eq, Debug)]
 pub struct VirtualAddress {
     /// The address space, 0 or 1.
     pub space: bool,
@@ -24,6 +24,7 @@ impl Entry {
     }
 
     /// The number of bytes in the entry's page.
+    #[tactic(auto, using(crate::proofs::Sizes::page_shifted, crate::proofs::Sizes::page_positive))]
     pub(crate) fn page_bytes(&self) -> u64
         ensures { (result ≡ page_bytes self.now) × (0 < result) }
     {
@@ -34,8 +35,7 @@ impl Entry {
     fn is_page(&self) -> bool
         ensures { result ≡ is_page self.now }
     {
-        let size = self.size();
-        size <= 5 || size == 7 || size == 9
+        matches!(self.size(), 0..=5 | 7 | 9)
     }
 
     /// Whether the address lies in the entry's page.
@@ -43,7 +43,7 @@ impl Entry {
         ensures { result ≡ agrees self.now effective }
     {
         let bytes = self.page_bytes();
-        effective as u64 / bytes == self.word0 as u64 / bytes
+        u64::from(effective) / bytes == u64::from(self.word0) / bytes
     }
 
     /// Whether the address matches the entry.
@@ -56,16 +56,4 @@ impl Entry {
             && (self.tid == 0 || self.tid == address.pid)
             && self.agrees(address.effective)
     }
-}
-
-/// The number of the first entry that the address matches.
-pub(crate) fn first(entries: &[Entry], address: &VirtualAddress) -> Option<usize>
-    ensures { Lowest entries.now address.now result }
-{
-    for (i, entry) in entries.iter().enumerate() {
-        if entry.matches(address) {
-            return Some(i);
-        }
-    }
-    None
 }

@@ -6,7 +6,7 @@ ghost use Rattle.pages.specs.Translating.{translate, InReal};
 ghost use Rattle.pages.specs.Tables.{with_entry, selected, written};
 
 use crate::entry::{Entry, Word};
-use crate::matching::{VirtualAddress, first};
+use crate::matching::VirtualAddress;
 use crate::translation::{PageFault, Right};
 use std::error::Error;
 use std::fmt;
@@ -26,6 +26,7 @@ impl Error for NoSuchEntry {}
 /// The page entries, by number.
 #[derive(Drop)]
 pub struct Pages {
+    // Anyone may build a table of any entries, so that all are kept is said by the methods, and by no ghost field.
     pub entries: [Entry; 64],
 }
 
@@ -40,14 +41,22 @@ impl Pages {
         }
     }
 
+    /// The place of the first entry that the address matches.
+    #[tactic(auto, unfolding(crate::specs::Matching::found))]
+    fn first(&self, address: &VirtualAddress) -> Option<usize>
+        ensures value { result ≡ found self.now.entries address.now }
+        ensures lowest { Lowest self.now.entries address.now result }
+    {
+        self.entries.iter().position(|entry| entry.matches(address))
+    }
+
     /// The number of the first entry that the address matches.
-    #[tactic(auto, using(crate::proofs::Searching::lowest_found))]
     pub fn search(&self, address: VirtualAddress) -> Option<u32>
         ensures value { result ≡ found self.now.entries address }
         ensures lowest { Lowest self.now.entries address result }
         ensures number { IfSome result (λ n. n < 64) }
     {
-        first(&self.entries, &address).map(|number| number as u32)
+        self.first(&address).map(|number| number as u32)
     }
 
     /// The real address of an access to the address, which needs the right.
@@ -69,6 +78,7 @@ impl Pages {
     }
 
     /// Replaces the entry of that number, less the bits that entries do not keep. Refuses 64 and above.
+    #[tactic(auto, unfolding(crate::specs::Tables::with_entry))]
     pub fn put(&mut self, number: u32, entry: Entry) -> Result<(), NoSuchEntry>
         ensures answer { is_ok result ≡ nat_lt number 64 }
         ensures value { self.new.entries ≡ with_entry self.old.entries number entry }
@@ -83,6 +93,7 @@ impl Pages {
 
     /// Rewrites a word of the entry that the low six bits of `selector` name, and with its first word its TID, as tlbwe
     /// does. Bits that entries do not keep are dropped.
+    #[tactic(auto, unfolding(crate::specs::Tables::written))]
     pub fn write(&mut self, selector: u32, word: Word, value: u32, tid: u32)
         ensures value { self.new.entries ≡ written self.old.entries selector word value tid }
         ensures kept { AllKept self.old.entries → AllKept self.new.entries }

@@ -65,14 +65,15 @@ impl Entry {
     }
 
     /// The real address of an address in the entry's page.
+    #[tactic(auto, using(crate::proofs::Sizes::real_bound))]
     fn real(&self, effective: u32) -> u64
         requires { is_page self.now ≡ true }
         ensures { (result ≡ real_of self.now effective) × (result < 2 ^ 36) }
     {
         let bytes = self.page_bytes();
-        let word1 = self.word1 as u64;
+        let word1 = u64::from(self.word1);
         let page = word1 / bytes * bytes;
-        word1 % 16 * 0x1_0000_0000 + (page + effective as u64 % bytes)
+        word1 % 16 * 0x1_0000_0000 + (page + u64::from(effective) % bytes)
     }
 
     /// What the entry makes of an address that matches it.

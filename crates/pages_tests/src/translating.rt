@@ -69,12 +69,10 @@ fn the_page_part_is_replaced(rt: HostRuntime) -> Result<(), Fail> {
 
 #[test]
 fn the_upper_bits_are_erpn(rt: HostRuntime) -> Result<(), Fail> {
-    let mut upper = 0u64;
     for erpn in 0u32..16 {
         let pages = only(1, entry(0, 0x0000_0200, 0x8765_4400 | erpn, 0x3F))?;
-        let gives = Ok(upper | 0x8765_4721);
+        let gives = Ok((u64::from(erpn) << 32) | 0x8765_4721);
         assert_eq!(rt; pages.translate(plain(0x321), SUPERVISOR_FETCH), gives);
-        upper = upper.wrapping_add(0x1_0000_0000);
     }
     Ok(())
 }
@@ -91,24 +89,24 @@ const RIGHTS: [(u32, Right); 6] = [
 
 #[test]
 fn each_right_grants_one_access_in_one_state(rt: HostRuntime) -> Result<(), Fail> {
-    for (i, (bit, _)) in RIGHTS.iter().enumerate() {
+    for (bit, right) in &RIGHTS {
         let one = only(0, entry(0, 0x0000_0210, 0x0000_5000, *bit))?;
         let others = only(0, entry(0, 0x0000_0210, 0x0000_5000, 0xFFBF ^ *bit))?;
-        for (k, (_, right)) in RIGHTS.iter().enumerate() {
-            let (alone, among) = if i == k {
+        for (_, asked) in &RIGHTS {
+            let (alone, among) = if asked == right {
                 (Ok(0x5678), Err(PageFault::Denied))
             } else {
                 (Err(PageFault::Denied), Ok(0x5678))
             };
             assert_eq!(rt;
-                one.translate(plain(0x678), *right),
+                one.translate(plain(0x678), *asked),
                 alone,
-                "right {i} for access {k}"
+                "{right:?} alone for {asked:?}"
             );
             assert_eq!(rt;
-                others.translate(plain(0x678), *right),
+                others.translate(plain(0x678), *asked),
                 among,
-                "all but right {i} for access {k}"
+                "all but {right:?} for {asked:?}"
             );
         }
     }

@@ -32,10 +32,8 @@ fn place_byte<B: Bus>(bus: &mut B, address: u64, byte: u8) -> Result<(), Denied>
     ensures state { B.Bus.model bus.new ≡ after (B.Bus.model bus.old) address 1 byte }
     ensures loan { B.Bus.lent bus.new ≡ B.Bus.lent bus.old }
 {
-    match bus.write(address, 1, u32::from(byte)) {
-        Ok(()) => Ok(()),
-        Err(code) => Err(Denied { address, code }),
-    }
+    bus.write(address, 1, u32::from(byte))
+        .map_err(|code| Denied { address, code })
 }
 
 /// Writes the bytes from the address on, each by an access of its own, in their order, up to the first that the bus
@@ -46,12 +44,8 @@ pub fn place<B: Bus>(bus: &mut B, address: u64, bytes: &[u8]) -> Result<(), Deni
     ensures state { B.Bus.model bus.new ≡ (placed (B.Bus.model bus.old) address bytes.now).model }
     ensures loan { B.Bus.lent bus.new ≡ B.Bus.lent bus.old }
 {
-    let mut at = address;
-    for byte in bytes {
-        if let Err(denied) = place_byte(bus, at, *byte) {
-            return Err(denied);
-        }
-        at += 1;
+    for (i, byte) in bytes.iter().enumerate() {
+        place_byte(bus, address + i as u64, *byte)?;
     }
     Ok(())
 }

@@ -1,13 +1,17 @@
 //! Records and their text, line by line as the rules have it.
 use describe::{Count, Described};
-use image::{PageEntry, Record};
-use std::alloc::AllocGlobal;
+use image::{Data, PageEntry, Record, Start};
+use std::alloc::{AllocError, AllocGlobal, Global};
 use std::process::Abort;
 use std::test::*;
 
+fn described(heap: Global, record: Record) -> Result<String, AllocError> {
+    let record = Described(record);
+    format!(in heap; "{record}")
+}
+
 fn says(rt: &(impl Abort + AllocGlobal), record: Record, text: &str) -> Result<(), Fail> {
-    let described = Described(record);
-    assert_eq!(rt; format!(in rt.alloc(); "{described}")?.as_str(), text);
+    assert_eq!(rt; described(rt.alloc(), record)?.as_str(), text);
     Ok(())
 }
 
@@ -21,88 +25,103 @@ fn entry<'a>(word0: u32, word1: u32, word2: u32, tid: u8) -> Record<'a> {
     })
 }
 
-// An entry whose EPN and RPN are all ones, with a SIZE, and the three words and the two addresses that are printed.
-#[derive(Clone, Copy)]
-struct Sized {
-    word0: u32,
-    text: &'static str,
+// A number from which a record is made, and what the record's text has.
+type Case = (u32, &'static str);
+
+// Holds the text that is made of each case's number against the case.
+fn each_says<M: Fn(u32) -> Result<String, AllocError>, H: Fn(&str, &str) -> bool>(
+    rt: &impl Abort,
+    cases: &[Case],
+    make: M,
+    holds: H,
+) -> Result<(), Fail>
+    requires makes { M.IsAlwaysCallable make }
+    requires tests { H.IsAlwaysCallable holds }
+{
+    for (number, part) in cases {
+        let text = make(*number)?;
+        let held = holds(text.as_str(), part);
+        assert!(rt; held, "{part}");
+    }
+    Ok(())
 }
 
-const SIZES: [Sized; 16] = [
-    Sized {
-        word0: 0xFFFF_FE00,
-        text: "page 0xFFFFFC00, 1 KiB, valid, space 0, any task\n  real 0xFFFFFFC00\n",
-    },
-    Sized {
-        word0: 0xFFFF_FE10,
-        text: "page 0xFFFFF000, 4 KiB, valid, space 0, any task\n  real 0xFFFFFF000\n",
-    },
-    Sized {
-        word0: 0xFFFF_FE20,
-        text: "page 0xFFFFC000, 16 KiB, valid, space 0, any task\n  real 0xFFFFFC000\n",
-    },
-    Sized {
-        word0: 0xFFFF_FE30,
-        text: "page 0xFFFF0000, 64 KiB, valid, space 0, any task\n  real 0xFFFFF0000\n",
-    },
-    Sized {
-        word0: 0xFFFF_FE40,
-        text: "page 0xFFFC0000, 256 KiB, valid, space 0, any task\n  real 0xFFFFC0000\n",
-    },
-    Sized {
-        word0: 0xFFFF_FE50,
-        text: "page 0xFFF00000, 1 MiB, valid, space 0, any task\n  real 0xFFFF00000\n",
-    },
-    Sized {
-        word0: 0xFFFF_FE60,
-        text: "page 0xFFFFFC00, no page size, valid, space 0, any task\n  real 0xFFFFFFC00\n",
-    },
-    Sized {
-        word0: 0xFFFF_FE70,
-        text: "page 0xFF000000, 16 MiB, valid, space 0, any task\n  real 0xFFF000000\n",
-    },
-    Sized {
-        word0: 0xFFFF_FE80,
-        text: "page 0xFFFFFC00, no page size, valid, space 0, any task\n  real 0xFFFFFFC00\n",
-    },
-    Sized {
-        word0: 0xFFFF_FE90,
-        text: "page 0xF0000000, 256 MiB, valid, space 0, any task\n  real 0xFF0000000\n",
-    },
-    Sized {
-        word0: 0xFFFF_FEA0,
-        text: "page 0xFFFFFC00, no page size, valid, space 0, any task\n  real 0xFFFFFFC00\n",
-    },
-    Sized {
-        word0: 0xFFFF_FEB0,
-        text: "page 0xFFFFFC00, no page size, valid, space 0, any task\n  real 0xFFFFFFC00\n",
-    },
-    Sized {
-        word0: 0xFFFF_FEC0,
-        text: "page 0xFFFFFC00, no page size, valid, space 0, any task\n  real 0xFFFFFFC00\n",
-    },
-    Sized {
-        word0: 0xFFFF_FED0,
-        text: "page 0xFFFFFC00, no page size, valid, space 0, any task\n  real 0xFFFFFFC00\n",
-    },
-    Sized {
-        word0: 0xFFFF_FEE0,
-        text: "page 0xFFFFFC00, no page size, valid, space 0, any task\n  real 0xFFFFFFC00\n",
-    },
-    Sized {
-        word0: 0xFFFF_FEF0,
-        text: "page 0xFFFFFC00, no page size, valid, space 0, any task\n  real 0xFFFFFFC00\n",
-    },
+// The word 0 of an entry whose EPN and RPN are all ones, with each SIZE, and the two addresses that are printed.
+const SIZES: [Case; 16] = [
+    (
+        0xFFFF_FE00,
+        "page 0xFFFFFC00, 1 KiB, valid, space 0, any task\n  real 0xFFFFFFC00\n",
+    ),
+    (
+        0xFFFF_FE10,
+        "page 0xFFFFF000, 4 KiB, valid, space 0, any task\n  real 0xFFFFFF000\n",
+    ),
+    (
+        0xFFFF_FE20,
+        "page 0xFFFFC000, 16 KiB, valid, space 0, any task\n  real 0xFFFFFC000\n",
+    ),
+    (
+        0xFFFF_FE30,
+        "page 0xFFFF0000, 64 KiB, valid, space 0, any task\n  real 0xFFFFF0000\n",
+    ),
+    (
+        0xFFFF_FE40,
+        "page 0xFFFC0000, 256 KiB, valid, space 0, any task\n  real 0xFFFFC0000\n",
+    ),
+    (
+        0xFFFF_FE50,
+        "page 0xFFF00000, 1 MiB, valid, space 0, any task\n  real 0xFFFF00000\n",
+    ),
+    (
+        0xFFFF_FE60,
+        "page 0xFFFFFC00, no page size, valid, space 0, any task\n  real 0xFFFFFFC00\n",
+    ),
+    (
+        0xFFFF_FE70,
+        "page 0xFF000000, 16 MiB, valid, space 0, any task\n  real 0xFFF000000\n",
+    ),
+    (
+        0xFFFF_FE80,
+        "page 0xFFFFFC00, no page size, valid, space 0, any task\n  real 0xFFFFFFC00\n",
+    ),
+    (
+        0xFFFF_FE90,
+        "page 0xF0000000, 256 MiB, valid, space 0, any task\n  real 0xFF0000000\n",
+    ),
+    (
+        0xFFFF_FEA0,
+        "page 0xFFFFFC00, no page size, valid, space 0, any task\n  real 0xFFFFFFC00\n",
+    ),
+    (
+        0xFFFF_FEB0,
+        "page 0xFFFFFC00, no page size, valid, space 0, any task\n  real 0xFFFFFFC00\n",
+    ),
+    (
+        0xFFFF_FEC0,
+        "page 0xFFFFFC00, no page size, valid, space 0, any task\n  real 0xFFFFFFC00\n",
+    ),
+    (
+        0xFFFF_FED0,
+        "page 0xFFFFFC00, no page size, valid, space 0, any task\n  real 0xFFFFFFC00\n",
+    ),
+    (
+        0xFFFF_FEE0,
+        "page 0xFFFFFC00, no page size, valid, space 0, any task\n  real 0xFFFFFFC00\n",
+    ),
+    (
+        0xFFFF_FEF0,
+        "page 0xFFFFFC00, no page size, valid, space 0, any task\n  real 0xFFFFFFC00\n",
+    ),
 ];
 
 #[test]
 fn a_page_begins_at_a_multiple_of_its_size(rt: HostRuntime) -> Result<(), Fail> {
-    for case in &SIZES {
-        let described = Described(entry(case.word0, 0xFFFF_FC0F, 0, 0));
-        let text = format!(in rt.alloc(); "{described}")?;
-        assert!(rt; text.as_str().contains(case.text), "{}", case.text);
-    }
-    Ok(())
+    each_says(
+        &rt,
+        &SIZES,
+        |word0| described(rt.alloc(), entry(word0, 0xFFFF_FC0F, 0, 0)),
+        |text, part| text.contains(part),
+    )
 }
 
 #[test]
@@ -124,120 +143,52 @@ fn an_entry_has_five_lines(rt: HostRuntime) -> Result<(), Fail> {
     )
 }
 
-// The rights that a word 2 gives.
-#[derive(Clone, Copy)]
-struct Rights {
-    word2: u32,
-    text: &'static str,
-}
-
-const RIGHTS: [Rights; 7] = [
-    Rights {
-        word2: 0x20,
-        text: "  user: execute; supervisor: none",
-    },
-    Rights {
-        word2: 0x10,
-        text: "  user: write; supervisor: none",
-    },
-    Rights {
-        word2: 0x08,
-        text: "  user: read; supervisor: none",
-    },
-    Rights {
-        word2: 0x04,
-        text: "  user: none; supervisor: execute",
-    },
-    Rights {
-        word2: 0x02,
-        text: "  user: none; supervisor: write",
-    },
-    Rights {
-        word2: 0x01,
-        text: "  user: none; supervisor: read",
-    },
-    Rights {
-        word2: 0x15,
-        text: "  user: write; supervisor: execute, read",
-    },
+// A word 2, and the rights that it gives.
+const RIGHTS: [Case; 7] = [
+    (0x20, "  user: execute; supervisor: none"),
+    (0x10, "  user: write; supervisor: none"),
+    (0x08, "  user: read; supervisor: none"),
+    (0x04, "  user: none; supervisor: execute"),
+    (0x02, "  user: none; supervisor: write"),
+    (0x01, "  user: none; supervisor: read"),
+    (0x15, "  user: write; supervisor: execute, read"),
 ];
 
 #[test]
 fn each_right_has_its_name(rt: HostRuntime) -> Result<(), Fail> {
-    for case in &RIGHTS {
-        let described = Described(entry(0, 0, case.word2, 0));
-        let text = format!(in rt.alloc(); "{described}")?;
-        assert!(rt; text.as_str().ends_with(case.text), "{}", case.text);
-    }
-    Ok(())
+    each_says(
+        &rt,
+        &RIGHTS,
+        |word2| described(rt.alloc(), entry(0, 0, word2, 0)),
+        |text, part| text.ends_with(part),
+    )
 }
 
-// The bits that an MSR has.
-#[derive(Clone, Copy)]
-struct State {
-    msr: u32,
-    text: &'static str,
-}
-
-const STATES: [State; 10] = [
-    State {
-        msr: 0,
-        text: "  MSR 0x00000000: none",
-    },
-    State {
-        msr: 0x2_0000,
-        text: "  MSR 0x00020000: CE",
-    },
-    State {
-        msr: 0x8000,
-        text: "  MSR 0x00008000: EE",
-    },
-    State {
-        msr: 0x4000,
-        text: "  MSR 0x00004000: PR",
-    },
-    State {
-        msr: 0x1000,
-        text: "  MSR 0x00001000: ME",
-    },
-    State {
-        msr: 0x200,
-        text: "  MSR 0x00000200: DE",
-    },
-    State {
-        msr: 0x20,
-        text: "  MSR 0x00000020: IS",
-    },
-    State {
-        msr: 0x10,
-        text: "  MSR 0x00000010: DS",
-    },
-    State {
-        msr: 0xC030,
-        text: "  MSR 0x0000C030: EE, PR, IS, DS",
-    },
-    State {
-        msr: 0x2_D230,
-        text: "  MSR 0x0002D230: CE, EE, PR, ME, DE, IS, DS",
-    },
+// An MSR, and the bits that it has.
+const STATES: [Case; 10] = [
+    (0, "  MSR 0x00000000: none"),
+    (0x2_0000, "  MSR 0x00020000: CE"),
+    (0x8000, "  MSR 0x00008000: EE"),
+    (0x4000, "  MSR 0x00004000: PR"),
+    (0x1000, "  MSR 0x00001000: ME"),
+    (0x200, "  MSR 0x00000200: DE"),
+    (0x20, "  MSR 0x00000020: IS"),
+    (0x10, "  MSR 0x00000010: DS"),
+    (0xC030, "  MSR 0x0000C030: EE, PR, IS, DS"),
+    (0x2_D230, "  MSR 0x0002D230: CE, EE, PR, ME, DE, IS, DS"),
 ];
 
 #[test]
 fn each_bit_of_the_msr_has_its_name(rt: HostRuntime) -> Result<(), Fail> {
-    for case in &STATES {
-        let described = Described(Record::Start {
-            counter: 0xFFFF_FFFC,
-            msr: case.msr,
-        });
-        let text = format!(in rt.alloc(); "{described}")?;
-        assert!(rt;
-            text.as_str().starts_with("start at 0xFFFFFFFC\n"),
-            "{}",
-            case.text
-        );
-        assert!(rt; text.as_str().ends_with(case.text), "{}", case.text);
-    }
-    Ok(())
+    each_says(
+        &rt,
+        &STATES,
+        |msr| {
+            let counter = 0xFFFF_FFFC;
+            described(rt.alloc(), Record::Start(Start { counter, msr }))
+        },
+        |text, part| text.starts_with("start at 0xFFFFFFFC\n") && text.ends_with(part),
+    )
 }
 
 fn data_says(
@@ -249,11 +200,11 @@ fn data_says(
 ) -> Result<(), Fail> {
     says(
         rt,
-        Record::Data {
+        Record::Data(Data {
             erpn,
             address,
             bytes,
-        },
+        }),
         text,
     )
 }

@@ -1,19 +1,11 @@
 -- A word shifted left, and right again with its sign, is its low bits extended by their sign. Assumes nothing.
 use Rattle.std.proofs.Common.{◌≡◌, ℕ, suc, ◌+◌, ◌-◌, ◌*◌, ◌/◌, ◌%◌, ◌^◌, ◌<◌, ◌≤◌, Bool, true, false, cond, ltb, ℤ, pos, negsuc, sym, refl, ap, ◌∙◌, arith, w32, to_z, of_z, mod-lt, ltb-true, ltb-false, mul-le-mul_right, mul-le-mul_left, add-mul}
 use Rattle.std.specs.Int.Signed.{shr_z}
-use Rattle.std.proofs.lemmas.Nat.{mod-pow-add, shl-shr, pow-add, pow_pos, div-mul-add}
-use Rattle.std.proofs.Math.Nat.{mul-mod_left, mul-div_cancel, mul-lt-mul_of_pos_right}
+use Rattle.std.proofs.lemmas.Nat.{pow-add, pow_pos, div-mul-add}
+use Rattle.std.proofs.Math.Nat.{mul-div_cancel, mul-lt-mul_of_pos_right}
 use Rattle.word.specs.Words.{extended}
 use Rattle.word.proofs.Products.{signed_low, signed_high}
-
--- the low k bits, on the left of a word
-on_the_left : (k s x : ℕ) → k + s ≡ 32 → x * 2 ^ s % 2 ^ 32 ≡ x % 2 ^ k * 2 ^ s
-on_the_left k s x e =
-    let p : x * 2 ^ s % 2 ^ (k + s) ≡ (x * 2 ^ s / 2 ^ s % 2 ^ k) * 2 ^ s + x * 2 ^ s % 2 ^ s = mod-pow-add (x * 2 ^ s) k s in
-    let q : x * 2 ^ s % 2 ^ 32 ≡ x * 2 ^ s % 2 ^ (k + s) = ap (λ (n : ℕ). x * 2 ^ s % 2 ^ n) (sym e) in
-    let r : x * 2 ^ s / 2 ^ s ≡ x = shl-shr x s in
-    let t : x * 2 ^ s % 2 ^ s ≡ 0 = mul-mod_left x (2 ^ s) in
-    q ∙ p ∙ rw (r, t) omega arith
+use Rattle.word.proofs.Rotations.{stays}
 
 -- a number below q, p times as large on the left of a word, and moved back
 moved_back : (a h q p : ℕ) → q ≡ h * 2 → 0 < p → a < q → q * p ≡ 2 ^ 32 → of_z w32 (shr_z (to_z w32 (a * p)) p) ≡ cond (ltb a h) a (a + (2 ^ 32 - q))
@@ -21,6 +13,7 @@ moved_back a h q p b g l e = by (ltb a h) refl
   where
     two : q * p ≡ h * p * 2
     two = ap (λ (n : ℕ). n * p) b ∙ omega arith
+
     by : (t : Bool) → ltb a h ≡ t → of_z w32 (shr_z (to_z w32 (a * p)) p) ≡ cond t a (a + (2 ^ 32 - q))
     by true u =
         let w : a * p < h * p = mul-lt-mul_of_pos_right (ltb-true a h u) g in
@@ -44,5 +37,5 @@ extended_by_shifts k x g h =
     let u : k ≡ k - 1 + 1 = omega arith in
     let two : 2 ^ k ≡ 2 ^ (k - 1) * 2 = ap (λ (n : ℕ). 2 ^ n) u ∙ pow-add 2 (k - 1) 1 in
     let whole : 2 ^ k * 2 ^ s ≡ 2 ^ 32 = sym (pow-add 2 k s) ∙ ap (λ (n : ℕ). 2 ^ n) t in
-    ap (λ (n : ℕ). of_z w32 (shr_z (to_z w32 n) (2 ^ s))) (on_the_left k s x t)
+    ap (λ (n : ℕ). of_z w32 (shr_z (to_z w32 n) (2 ^ s))) (ap (λ (n : ℕ). x * 2 ^ s % 2 ^ n) (sym t) ∙ stays x s k)
     ∙ moved_back (x % 2 ^ k) (2 ^ (k - 1)) (2 ^ k) (2 ^ s) two (pow_pos s) (mod-lt x (pow_pos k)) whole

@@ -6,7 +6,7 @@ use Rattle.std.proofs.lemmas.Nat.{mod-pow-add, shl-shr, shr_below}
 use Rattle.word.specs.Shifts.{turned}
 
 -- what stays of a word moved n of n + m places
-stays : (x n m : ℕ) → x * 2 ^ n % 2 ^ (m + n) ≡ x % 2 ^ m * 2 ^ n
+pub stays : (x n m : ℕ) → x * 2 ^ n % 2 ^ (m + n) ≡ x % 2 ^ m * 2 ^ n
 stays x n m =
     let e = mod-pow-add (x * 2 ^ n) m n in
     let s = shl-shr x n in

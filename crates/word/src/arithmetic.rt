@@ -6,7 +6,7 @@ ghost use Rattle.word.specs.Sums.{added};
 use crate::sign::bias;
 
 /// What an operation gives: a word, a carry, and whether the signed result does not fit a word.
-#[derive(Clone, Copy)]
+#[derive(Clone, Copy, PartialEq, Eq, Debug)]
 pub struct Outcome {
     pub value: u32,
     pub carry: bool,
@@ -18,11 +18,11 @@ pub fn add(a: u32, b: u32, carry: bool) -> Outcome
     ensures is { result ≡ added a b carry }
     ensures exact { SumExact }
 {
-    let exact = a as u64 + b as u64 + carry as u64;
-    let biased = bias(a) as u64 + bias(b) as u64 + carry as u64;
+    let (value, carried) = a.carrying_add(b, carry);
+    let biased = u64::from(bias(a)) + u64::from(bias(b)) + u64::from(carry);
     Outcome {
-        value: (exact % 0x1_0000_0000) as u32,
-        carry: exact >= 0x1_0000_0000,
+        value,
+        carry: carried,
         overflow: biased < 0x8000_0000 || biased >= 0x1_8000_0000,
     }
 }

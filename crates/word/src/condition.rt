@@ -3,17 +3,16 @@ ghost use Rattle.std.specs.Prelude.{◌≡◌, ℕ, ◌%◌};
 ghost use Rattle.word.specs.Conditions.{relation, relation_signed, traps, field_at, with_field, bit_at, with_bit, field_mask, merged};
 
 use crate::sign::bias;
+use std::cmp::Ordering;
 
 /// How two words compare, as a condition field without its last bit: 8 for less, 4 for greater, 2 for equal.
 pub fn compare(a: u32, b: u32) -> u32
     ensures { result ≡ relation a b }
 {
-    if a < b {
-        8
-    } else if b < a {
-        4
-    } else {
-        2
+    match a.cmp(&b) {
+        Ordering::Less => 8,
+        Ordering::Greater => 4,
+        Ordering::Equal => 2,
     }
 }
 
@@ -29,13 +28,17 @@ pub fn compare_signed(a: u32, b: u32) -> u32
 pub fn traps(conditions: u32, a: u32, b: u32) -> bool
     ensures { result ≡ traps conditions a b }
 {
-    let signed = compare_signed(a, b);
-    let unsigned = compare(a, b);
-    (conditions / 16 % 2 == 1 && signed == 8)
-        || (conditions / 8 % 2 == 1 && signed == 4)
-        || (conditions / 4 % 2 == 1 && unsigned == 2)
-        || (conditions / 2 % 2 == 1 && unsigned == 8)
-        || (conditions % 2 == 1 && unsigned == 4)
+    let signed = match bias(a).cmp(&bias(b)) {
+        Ordering::Less => conditions / 16,
+        Ordering::Greater => conditions / 8,
+        Ordering::Equal => conditions / 4,
+    };
+    let unsigned = match a.cmp(&b) {
+        Ordering::Less => conditions / 2,
+        Ordering::Greater => conditions,
+        Ordering::Equal => conditions / 4,
+    };
+    signed % 2 == 1 || unsigned % 2 == 1
 }
 
 /// A field of the condition register, by the low three bits of its number.
@@ -50,7 +53,7 @@ pub fn with_field(cr: u32, number: u32, value: u32) -> u32
     ensures { result ≡ with_field cr number value }
 {
     let place = 28 - 4 * (number % 8);
-    cr & (0xFFFF_FFFF - (15 << place)) | ((value % 16) << place)
+    cr & !(15 << place) | ((value % 16) << place)
 }
 
 /// A bit of the condition register, by the low five bits of its number.
@@ -65,13 +68,14 @@ pub fn with_bit(cr: u32, number: u32, value: bool) -> u32
     ensures { result ≡ with_bit cr number value }
 {
     let place = 31 - number % 32;
-    cr & (0xFFFF_FFFF - (1 << place)) | ((value as u32) << place)
+    cr & !(1 << place) | (u32::from(value) << place)
 }
 
 /// The bits of the fields that a mask of eight bits names, the leftmost the first field.
 pub fn field_mask(mask: u32) -> u32
     ensures { result ≡ field_mask mask }
 {
+    // One term for each field: as a sum over an iterator of the fields its proof did not close.
     mask / 128 % 2 * 0xF000_0000
         + mask / 64 % 2 * 0x0F00_0000
         + mask / 32 % 2 * 0x00F0_0000
@@ -86,5 +90,5 @@ pub fn field_mask(mask: u32) -> u32
 pub fn merge(old: u32, new: u32, mask: u32) -> u32
     ensures { result ≡ merged old new mask }
 {
-    new & mask | old & (0xFFFF_FFFF - mask)
+    new & mask | old & !mask
 }

@@ -1,7 +1,7 @@
 //! Products and quotients.
 ghost use Rattle.std.specs.Prelude.{◌≡◌};
 ghost use Rattle.word.specs.ProductsExact.{ProductExact, OverflowExact, QuotientExact};
-ghost use Rattle.word.specs.Products.{product_low, product_high, product_high_signed, product_overflows, quotient, quotient_signed, magnitude};
+ghost use Rattle.word.specs.Products.{product_low, product_high, product_high_signed, product_overflows, quotient, quotient_signed};
 
 use crate::sign::is_negative;
 
@@ -16,10 +16,11 @@ pub fn multiply(a: u32, b: u32) -> u32
 pub fn multiply_high(a: u32, b: u32) -> u32
     ensures { result ≡ product_high a b }
 {
-    (a as u64 * b as u64 / 0x1_0000_0000) as u32
+    (u64::from(a) * u64::from(b) / 0x1_0000_0000) as u32
 }
 
 /// The high word of a product of signed words.
+#[tactic(auto, using(crate::proofs::Products::product_exact))]
 pub fn multiply_high_signed(a: u32, b: u32) -> u32
     ensures is { result ≡ product_high_signed a b }
     ensures exact { ProductExact }
@@ -32,6 +33,7 @@ pub fn multiply_high_signed(a: u32, b: u32) -> u32
 }
 
 /// Whether a product of signed words does not fit a word.
+#[tactic(auto, using(crate::proofs::Products::overflow_exact))]
 pub fn multiply_overflows(a: u32, b: u32) -> bool
     ensures is { result ≡ product_overflows a b }
     ensures exact { OverflowExact }
@@ -44,36 +46,20 @@ pub fn multiply_overflows(a: u32, b: u32) -> bool
     multiply_high_signed(a, b) != fill
 }
 
-/// The size of a signed word.
-fn magnitude(x: u32) -> u32
-    ensures { result ≡ magnitude x }
-{
-    if is_negative(x) {
-        0xFFFF_FFFF - x + 1
-    } else {
-        x
-    }
-}
-
 /// The quotient of unsigned words; none for a divisor of zero.
 pub fn divide(a: u32, b: u32) -> Option<u32>
     ensures { result ≡ quotient a b }
 {
-    if b == 0 { None } else { Some(a / b) }
+    a.checked_div(b)
 }
 
 /// The quotient of signed words, rounded toward zero; none for a divisor of zero, and for the least word by -1.
+#[tactic(auto, using(crate::proofs::Quotients::quotient_exact, crate::proofs::Quotients::divided))]
 pub fn divide_signed(a: u32, b: u32) -> Option<u32>
     ensures is { result ≡ quotient_signed a b }
     ensures exact { QuotientExact }
 {
-    if b == 0 || (a == 0x8000_0000 && b == 0xFFFF_FFFF) {
-        return None;
-    }
-    let size = magnitude(a) / magnitude(b);
-    if is_negative(a) == is_negative(b) {
-        Some(size)
-    } else {
-        Some(0u32.wrapping_sub(size))
-    }
+    a.cast_signed()
+        .checked_div(b.cast_signed())
+        .map(i32::cast_unsigned)
 }

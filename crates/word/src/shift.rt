@@ -4,9 +4,10 @@ ghost use Rattle.std.specs.Int.Count.{count_leading_zeros};
 ghost use Rattle.word.specs.Shifts.{rotated, mask, shifted_left, shifted_right, shifted_algebraic};
 
 use crate::arithmetic::Outcome;
-use crate::sign::{invert, is_negative};
+use crate::sign::is_negative;
 
 /// A word rotated left, by the low five bits of an amount.
+#[tactic(auto, using(crate::proofs::Rotations::rotated_by_shifts), unfolding(crate::specs::Shifts::rotated))]
 pub fn rotate(x: u32, amount: u32) -> u32
     ensures { result ≡ rotated x amount }
 {
@@ -14,11 +15,12 @@ pub fn rotate(x: u32, amount: u32) -> u32
 }
 
 /// Ones from one bit to another, round the end where the first is the greater; bits by their low five bits.
+#[tactic(auto, using(crate::proofs::Masks::mask_in_order, crate::proofs::Masks::mask_round_the_end), unfolding(crate::specs::Shifts::mask))]
 pub fn mask_between(begin: u32, end: u32) -> u32
     ensures { result ≡ mask begin end }
 {
-    let from = 0xFFFF_FFFFu32 >> (begin % 32);
-    let to = 0xFFFF_FFFFu32 << (31 - end % 32);
+    let from = u32::MAX >> (begin % 32);
+    let to = u32::MAX << (31 - end % 32);
     if begin % 32 <= end % 32 {
         from & to
     } else {
@@ -30,16 +32,14 @@ pub fn mask_between(begin: u32, end: u32) -> u32
 pub fn shift_left(x: u32, amount: u32) -> u32
     ensures { result ≡ shifted_left x amount }
 {
-    let by = amount % 64;
-    if by < 32 { x << by } else { 0 }
+    x.checked_shl(amount % 64).unwrap_or(0)
 }
 
 /// A word shifted right with zeros, by the low six bits of an amount.
 pub fn shift_right(x: u32, amount: u32) -> u32
     ensures { result ≡ shifted_right x amount }
 {
-    let by = amount % 64;
-    if by < 32 { x >> by } else { 0 }
+    x.checked_shr(amount % 64).unwrap_or(0)
 }
 
 /// A word shifted right with its sign, by the low six bits of an amount; the carry tells whether a one was shifted out of
@@ -48,18 +48,10 @@ pub fn shift_algebraic(x: u32, amount: u32) -> Outcome
     ensures { result ≡ shifted_algebraic x amount }
 {
     let by = amount % 64;
-    if !is_negative(x) {
-        Outcome {
-            value: shift_right(x, amount),
-            carry: false,
-            overflow: false,
-        }
-    } else {
-        Outcome {
-            value: invert(shift_right(invert(x), amount)),
-            carry: by >= 32 || x % (1 << by) != 0,
-            overflow: false,
-        }
+    Outcome {
+        value: (x.cast_signed() >> by.min(31)).cast_unsigned(),
+        carry: is_negative(x) && (by >= 32 || x % (1 << by) != 0),
+        overflow: false,
     }
 }
 

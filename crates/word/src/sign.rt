@@ -20,10 +20,11 @@ pub fn bias(x: u32) -> u32
 pub fn invert(x: u32) -> u32
     ensures { result ≡ inverted x }
 {
-    0xFFFF_FFFF - x
+    !x
 }
 
 /// The low bits of a word, as many as `BITS`, extended by their sign.
+#[tactic(auto, using(crate::proofs::Extensions::extended_by_shifts))]
 pub fn extend<const BITS: u32>(x: u32) -> u32
     requires some { 0 < BITS }
     requires fits { BITS ≤ 32 }
@@ -44,5 +45,5 @@ pub fn reverse(x: u32) -> u32
 pub fn reverse_half(x: u32) -> u32
     ensures { result ≡ reversed_half x }
 {
-    x % 256 * 256 + x / 256 % 256
+    u32::from(((x % 0x1_0000) as u16).swap_bytes())
 }

@@ -1,9 +1,11 @@
-use Rattle.std.proofs.Common.{◌≡◌, drop}
+use Rattle.std.proofs.Common.{◌≡◌, ◌+◌, ◌<◌, ◌^◌, drop}
 use Rattle.placing.specs.Placing.{placed}
 use Rattle.placing.proofs.place.Given as goal
 
 -- what is left to write, from where the bus stands, comes to the whole
-abbrev pub invariant-loop-byte : goal.invariant-loop-byte
-invariant-loop-byte g l =
-    (placed (g.B.Bus.model l.bus) l.at (drop l.byte-index l.bytes) ≡ placed (g.B.Bus.model l.initial.bus) l.address l.bytes)
-    × (g.B.Bus.lent l.bus ≡ g.B.Bus.lent l.initial.bus)
+abbrev pub invariant-loop-i : goal.invariant-loop-i
+invariant-loop-i g l = record {
+  left : placed (g.B.Bus.model l.bus) (l.address + l.i) (drop l.i l.bytes) ≡ placed (g.B.Bus.model l.initial.bus) l.address l.bytes;
+  loan : g.B.Bus.lent l.bus ≡ g.B.Bus.lent l.initial.bus;
+  fits : l.address + l.i < 2 ^ 64;
+}

@@ -1,21 +1,13 @@
 -- What the two sides have become makes the joined bus.
-use Rattle.std.proofs.Common.{ap, ◌∙◌, rules}
-use Rattle.bus.specs.Model.{after}
-use Rattle.bus.specs.Join.{joined}
-use Rattle.bus.proofs.Joining.{joined-after}
+use Rattle.std.proofs.Common.{arith}
+use Rattle.bus.proofs.Joining.{joined_left, joined_right}
 use Rattle.bus.proofs.JoinedBus.write.Goals as goal
 
-pub returns : goal.returns
-returns g c =
-    let l = g.L.Bus.model c.args.self.now.left in
-    let r = g.R.Bus.model c.args.self.now.right in
-    let a = c.args.address in
-    let w = c.args.width in
-    let v = c.args.value in
-    record {
-      answer = c.write_either.ensures.answer;
-      state = ap (λ m. joined m (g.R.Bus.model c.write_either.new.right)) c.write_either.ensures.left
-          ∙ ap (joined (after l a w v)) c.write_either.ensures.right
-          ∙ joined-after l r (g.L.Bus.lawful c.args.self.now.left) a w v;
-      loan = search rules;
-    }
+pub returns-in-Err-eq1-clause-state : goal.returns-in-Err-eq1-clause-state
+returns-in-Err-eq1-clause-state g c =
+    grind (arith, joined_right _ (g.R.Bus.model c.args.self.now.right) (g.met.L.Bus.lawful c.args.self.now.left) c.args.address c.args.width c.args.value (grind arith))
+
+pub returns-in_default-2-clause-state : goal.returns-in_default-2-clause-state
+returns-in_default-2-clause-state g c =
+    let h = c.in_default in
+    grind (arith, joined_left _ (g.R.Bus.model c.args.self.now.right) (g.met.L.Bus.lawful c.args.self.now.left) c.args.address c.args.width c.args.value (grind arith))

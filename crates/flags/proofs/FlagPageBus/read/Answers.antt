@@ -1,10 +1,13 @@
-use Rattle.std.proofs.Common.{Ok, ap, ◌∙◌, rules}
+use Rattle.std.proofs.Common.{arith}
 use Rattle.flags.proofs.FlagPageBus.read.Goals as goal
-use Rattle.flags.proofs.Pages.{page-read}
+use Rattle.flags.proofs.Pages.{read_flags, read_enable}
 
-pub returns-in-None : goal.returns-in-None
-returns-in-None c = record {
-  answer = ap Ok c.word_at.ensures
-      ∙ page-read c.args.self.now.frame c.args.self.now.flags c.args.self.now.enable c.args.address c.args.width (search rules);
-  state = search rules;
-}
+pub returns-in-Flags-clause-answer : goal.returns-in-Flags-clause-answer
+returns-in-Flags-clause-answer c =
+    let page = c.args.self.now in
+    grind (arith, read_flags page.frame page.flags page.enable c.args.address c.args.width (grind arith) (grind arith))
+
+pub returns-in-Enable-clause-answer : goal.returns-in-Enable-clause-answer
+returns-in-Enable-clause-answer c =
+    let page = c.args.self.now in
+    grind (arith, read_enable page.frame page.flags page.enable c.args.address c.args.width (grind arith) (grind arith))

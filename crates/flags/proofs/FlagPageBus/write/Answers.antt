@@ -1,16 +1,13 @@
-use Rattle.std.proofs.Common.{ap, ◌∙◌, rules}
-use Rattle.flags.specs.Flags.{page}
+use Rattle.std.proofs.Common.{arith}
 use Rattle.flags.proofs.FlagPageBus.write.Goals as goal
-use Rattle.flags.proofs.Pages.{page_wrote}
+use Rattle.flags.proofs.Pages.{wrote_flags, wrote_enable}
 
-pub returns : goal.returns
-returns c =
-    let n = c.args.self.now.frame in
-    let words = c.rewritten-flags in
-    record {
-      answer = search rules;
-      state = ap (λ x. page n x words.result.1) words.ensures.0
-          ∙ ap (page n _) words.ensures.1
-          ∙ page_wrote n c.args.self.now.flags c.args.self.now.enable c.args.address c.args.width (search rules) c.args.value;
-      loan = search rules;
-    }
+pub returns-in-Flags-clause-state : goal.returns-in-Flags-clause-state
+returns-in-Flags-clause-state c =
+    let page = c.args.self.now in
+    grind (arith, wrote_flags page.frame page.flags page.enable c.args.address c.args.width (grind arith) c.args.value (grind arith))
+
+pub returns-in-Enable-clause-state : goal.returns-in-Enable-clause-state
+returns-in-Enable-clause-state c =
+    let page = c.args.self.now in
+    wrote_enable page.frame page.flags page.enable c.args.address c.args.width (grind arith) c.args.value (grind arith)

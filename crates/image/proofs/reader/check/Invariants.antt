@@ -1,12 +1,13 @@
-use Rattle.std.proofs.Common.{◌≡◌, ◌+◌, ◌≤◌, length}
-use Rattle.image.specs.Readers.{remaining}
+use Rattle.std.proofs.Common.{◌≡◌, ◌+◌, ◌≤◌}
+use Rattle.image.specs.Readers.{to_come, turns_left}
 use Rattle.image.specs.Reading.{counted, records}
 use Rattle.image.proofs.Counting.{plus}
 use Rattle.image.proofs.reader.check.Given as goal
 
--- the records counted so far and those that remain are all records
-abbrev pub invariant-loop-count : goal.invariant-loop-count
-invariant-loop-count l = (counted (records l.image) ≡ plus l.count (counted (remaining l.reader))) × (l.count + length l.reader.rest.now ≤ 65535)
-
-abbrev pub decreases-loop-count : goal.decreases-loop-count
-decreases-loop-count l = length l.reader.rest.now
+-- the records counted so far and those to come are all records
+abbrev pub invariant-loop-record : goal.invariant-loop-record
+invariant-loop-record l =
+    record {
+      all : counted (records l.image) ≡ plus l.count (counted (to_come l.record-iterator));
+      few : l.count + turns_left l.record-iterator ≤ 65536;
+    }

@@ -55,7 +55,7 @@ returns g c =
           sym (held_bus c.loop-command.life last)
           ∙ ap bus_of (ap (λ xs. lived xs end) (sym none) ∙ inv.2 ∙ ap (lived c.args.commands.now) start);
       whole = record {
-        lawful = g.B.Bus.lawful c.args.bus.now;
+        lawful = g.met.B.Bus.lawful c.args.bus.now;
         way = subst (λ (z : Standing). From z (retired last)) start (ending c.loop-command.life last inv.3);
       };
     }

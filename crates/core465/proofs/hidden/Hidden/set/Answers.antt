@@ -1,12 +1,15 @@
-use Rattle.std.proofs.Common.{◌≡◌, ◌%◌, arith, rules}
-use Rattle.pages.proofs.Masks.{and_again}
+use Rattle.std.proofs.Common.{◌≡◌, ℕ, ◌%◌, bit_and, ap, ◌∙◌, arith, rules}
+use Rattle.std.proofs.lemmas.Nat.{and_assoc}
+use Rattle.std.specs.Int.Bits.{and_self}
 use Rattle.core465.specs.Hidden.{ivor_bits}
 use Rattle.core465.proofs.Vectors.{vectors_kept}
 use Rattle.core465.proofs.hidden.Hidden.set.Goals as goal
 
 pub returns-in-Esr : goal.returns-in-Esr
 returns-in-Esr c =
-    record { after = search rules; kept = λ h. ((h.0.0, and_again c.args.value 0x0E800000), h.1, h.2) }
+    let v = c.args.value in
+    let m : ℕ = 0x0E80_0000 in
+    record { after = search rules; kept = λ h. ((h.0.0, and_assoc m v m ∙ ap (bit_and v) (and_self m)), h.1, h.2) }
 
 pub returns-in-Ivor : goal.returns-in-Ivor
 returns-in-Ivor c =
