@@ -35,7 +35,7 @@ on_steps (suc n) k s = by (on_steps n (k + 1) (stepped s).state) (ends (stepped 
         }
 
 positive : (n : ℕ) → bad_count n ≡ false → suc (n - 1) ≡ n
-positive zero e = let z : ◌≡◌ {A = ℕ} 0 1 = cc in absurd (omega arith)
+positive zero e = grind arith
 positive (suc n) e = omega arith
 
 pub run_is_steps : (s : State) (n : ℕ) → bad_count n ≡ false → RunIsSteps n s

@@ -22,23 +22,20 @@ use Rattle.step.specs.declared.answer.Layer.{Layer}
 use Rattle.step.specs.Plans.{Plan, works, writes, faults, does, leaves, aligned, fetching, located, goes, loading_at, storing_at, at_real, read_by, write_by, carries, executes, planned}
 use Rattle.isolation.specs.Views.{Leads, Readable, Reached, Storable, SameBus}
 
-no : {A : Type 0} → ◌≡◌ {A = ℕ} 0 1 → A
-no e = absurd (omega arith)
-
 -- a fetch, a load or a store that goes to a real address was given it by the reach
 fetch_real : (t : Result ℕ PageFault) (a : ℕ) → fetching t ≡ Ok a → t ≡ Ok a
 fetch_real (Ok b) a e = let z : b ≡ a = cc in ap Ok z
-fetch_real (Err Miss) a e = no (cc)
-fetch_real (Err Denied) a e = no (cc)
+fetch_real (Err Miss) a e = grind arith
+fetch_real (Err Denied) a e = grind arith
 
 aligned-real : (b : Bool) (c : Cause) (p a : ℕ) → ◌≡◌ {A = Result ℕ Cause} (cond b (Ok p) (Err c)) (Ok a) → ◌≡◌ {A = Result ℕ PageFault} (Ok p) (Ok a)
 aligned-real true c p a e = let z : p ≡ a = cc in ap Ok z
-aligned-real false c p a e = no (cc)
+aligned-real false c p a e = grind arith
 
 data_real : (x : DataAccess) (n : ℕ) (t : Result ℕ PageFault) (a : ℕ) → located x n t ≡ Ok a → t ≡ Ok a
 data_real x n (Ok b) a e = aligned-real (aligned x.effective n) (Alignment x) b a e
-data_real x n (Err Miss) a e = no (cc)
-data_real x n (Err Denied) a e = no (cc)
+data_real x n (Err Miss) a e = grind arith
+data_real x n (Err Denied) a e = grind arith
 
 module _ (r : Reach) where
   leads : (kinds : Access → Bool) (k : Access) → kinds k ≡ true → (ea a : ℕ) → r k ea ≡ Ok a → Leads kinds r (frame_of a)
@@ -136,7 +133,7 @@ module _ (v : Seen) (r : Reach) (user : v.shown.msr.pr ≡ true) where
 
   permit_fits : (d : PrivilegedDeed) (b : Bool) → b ≡ true → Fits r (cond b (leaves (Program Privileged)) (does d))
   permit_fits d true e = leave
-  permit_fits d false e = no (cc)
+  permit_fits d false e = grind arith
 
   module _ (m : Model) where
     carry_fits : (f : Effect) → Fits r (carries v r m f)

@@ -1,5 +1,6 @@
 -- The laws of one step.
-use Rattle.std.proofs.Common.{◌≡◌, ℕ, Bool, true, false, cond, eqb, ◌⊎◌, sym, refl, ap, ◌∙◌, subst, inl, inr, arith, eqb-true}
+use Rattle.std.proofs.Common.{◌≡◌, ℕ, Bool, true, false, cond, eqb, ◌⊎◌, sym, refl, ap, ◌∙◌, subst, inl, inr, eqb-true}
+use Rattle.std.proofs.lemmas.Bool.{true≢false}
 use Rattle.bus.specs.Model.{Bytes, offset_of, frame_of}
 use Rattle.interrupt.specs.declared.Taken.{Taken}
 use Rattle.interrupt.specs.Interrupts.{taken}
@@ -67,9 +68,6 @@ module _ (r : Reach) where
     steps_alike = subst (λ (p : Plan). Related r (enacted s (planned (seen s.machine) (reach s.machine) s.bus)) (enacted t p)) one_plan (enact_alike fitting s t al)
 
 -- integrity and entry of one step
-differ : {A : Type 0} → true ≡ false → A
-differ e = let z : ◌≡◌ {A = ℕ} 0 1 = cc in absurd (omega arith)
-
 module _ (s : State) where
   enact_kept : {p : Plan} → Fits (reach s.machine) p → Kept s (enacted s p)
   unfolding interrupting interrupted
@@ -93,8 +91,8 @@ module _ (s : State) where
     -- an answer that is no interrupt leaves user state as it is
     stays : (a : Answer) (z : State) → interrupts a ≡ false → z.machine.shown.msr ≡ s.machine.shown.msr → Entered s (record { answer = a; state = z })
     stays a z e h = record {
-      exactly = (λ i. differ (sym i ∙ e), λ o. differ (sym user ∙ sym (ap (λ (m : Msr). m.pr) h) ∙ o));
-      stands = λ t i. differ (sym (ap interrupts i) ∙ e);
+      exactly = (λ i. absurd (true≢false (sym i ∙ e)), λ o. absurd (true≢false (sym user ∙ sym (ap (λ (m : Msr). m.pr) h) ∙ o)));
+      stands = λ t i. absurd (true≢false (sym (ap interrupts i) ∙ e));
     }
 
     enact_entered : {p : Plan} → Fits (reach s.machine) p → Entered s (enacted s p)

@@ -82,7 +82,7 @@ address ea = record { space = false; pid = 0; effective = ea % 2 ^ 32 }
 
 module _ (a : ℕ) where
   outside : ◌≡◌ {A = Result ℕ PageFault} (Err Miss) (Ok a) → frame_of a ≡ 0
-  outside e = let z : ◌≡◌ {A = ℕ} 0 1 = cc in absurd (omega arith)
+  outside e = grind arith
 
   inside : (ea : ℕ) → ◌≡◌ {A = Result ℕ PageFault} (Ok (real_of page (ea % 2 ^ 32))) (Ok a) → frame_of a ≡ 0
   inside ea e = let z : 0 + (0 + ea % 2 ^ 32 % 1024) ≡ a = cc in omega arith

@@ -13,18 +13,18 @@ more_ok i (Err x) e = e
 
 pub more-loaded : (i : Item) (r : Result (List Item) Refusal) (s : State) → is_ok (more i r) ≡ true → (loaded_by r (applied i s)).state ≡ (loaded_by (more i r) s).state
 more-loaded i (Ok is) s e = refl
-more-loaded i (Err x) s e = let z : ◌≡◌ {A = ℕ} 0 1 = cc in absurd (omega arith)
+more-loaded i (Err x) s e = grind arith
 
 -- an image that is refused changes nothing
 pub refuses : (r : Result (List Item) Refusal) (x : Refusal) (s : State) → Err x ≡ checked r → ◌≡◌ {A = Loaded} (record { answer = Err x; state = s }) (loaded_by r s)
-refuses (Ok is) x s e = let z : ◌≡◌ {A = ℕ} 0 1 = cc in absurd (omega arith)
+refuses (Ok is) x s e = grind arith
 refuses (Err y) x s e = cc
 
 module _ (image : List ℕ) (s : State) (rest : Result (List Item) Refusal) (whole : rest ≡ records image) where
   -- one that is not refused is read whole
   pub sound : (r : Result (List Item) Refusal) → screened s.bus image ≡ r → Ok tt ≡ checked r → (is : List Item) × (rest ≡ Ok is) × (r ≡ Ok is)
   sound (Ok is) e ok = (is, whole ∙ (loading_law.sound s.bus image is e).0, refl)
-  sound (Err x) e ok = let z : ◌≡◌ {A = ℕ} 0 1 = cc in absurd (omega arith)
+  sound (Err x) e ok = grind arith
 
   pub sound_ok : Ok tt ≡ checked (screened s.bus image) → is_ok rest ≡ true
   sound_ok ok = ap is_ok (sound (screened s.bus image) refl ok).1

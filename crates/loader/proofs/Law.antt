@@ -42,7 +42,7 @@ module _ (m : Model) where
   -- and the other way
   tail : (i : Item) (r : Read) (is : List Item) → more i r ≡ Ok is → (js : List Item) × (r ≡ Ok js) × (is ≡ i ∷ js)
   tail i (Ok js) is e = (js, refl, let z : is ≡ i ∷ js = cc in z)
-  tail i (Err x) is e = let z : ◌≡◌ {A = ℕ} 0 1 = cc in absurd (omega arith)
+  tail i (Err x) is e = grind arith
 
   passes_step : (n : ℕ) (p : Place) (s : Step) (is : List Item) → ((q : Place) (js : List Item) → walk n q ≡ Ok js → AllAccepted m js → screen m n q ≡ Ok js) → after (walk n) s ≡ Ok is → AllAccepted m is → after (screen m n) (judged m p s) ≡ Ok is
   passes_step n p (one i q) is h e all =
