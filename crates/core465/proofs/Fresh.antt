@@ -11,8 +11,8 @@ use Rattle.cpu.specs.declared.registers.Xer.{Xer}
 use Rattle.pages.specs.Entries.{blank, Kept}
 use Rattle.core465.specs.declared.hidden.Hidden.{Hidden}
 use Rattle.core465.specs.declared.hidden.Saved.{Saved}
+use Rattle.core465.specs.Hidden.{VectorKept}
 use Rattle.core465.specs.Machine.{MachineKept, new_machine}
-use Rattle.core465.proofs.Vectors.{zeros_kept}
 
 abbrev Zeros : List ℕ → ℕ → Type 0
 Zeros = AllOfLen (λ x. x ≡ 0)
@@ -52,6 +52,6 @@ new_kept = record {
   working = search rules;
   saved = (refl, refl);
   task = (refl, refl);
-  vectors = (refl, zeros_kept 16);
+  vectors = (refl, All-replicate VectorKept 16 0 refl);
   entries = All-replicate Kept 64 blank refl;
 }

@@ -1,5 +1,5 @@
 -- The registers that user state does not see: the bits that they keep. Assumes nothing.
-use Rattle.std.specs.Prelude.{◌≡◌, ℕ, ◌+◌, ◌*◌, ◌/◌, ◌%◌, ◌==◌, bit_and, slice_index}
+use Rattle.std.specs.Prelude.{◌≡◌, ℕ, ◌+◌, ◌*◌, ◌/◌, ◌%◌, ◌==◌, bit_and, All}
 use Rattle.word.specs.Words.{bit}
 use Rattle.core465.specs.declared.hidden.Hidden.{Hidden}
 use Rattle.core465.specs.declared.hidden.Mmucr.{Mmucr}
@@ -34,8 +34,11 @@ SavedKept h = (srr0_bits h.saved.srr0 ≡ h.saved.srr0) × (esr_bits h.saved.esr
 abbrev pub TaskKept : Hidden → Type 0
 TaskKept h = (pid_bits h.pid ≡ h.pid) × (pid_bits h.mmucr.stid ≡ h.mmucr.stid)
 
+abbrev pub VectorKept : ℕ → Type 0
+VectorKept v = ivor_bits v ≡ v
+
 abbrev pub VectorsKept : Hidden → Type 0
-VectorsKept h = (ivpr_bits h.ivpr ≡ h.ivpr) × ((k : ℕ) → ivor_bits (slice_index h.ivor k) ≡ slice_index h.ivor k)
+VectorsKept h = (ivpr_bits h.ivpr ≡ h.ivpr) × All VectorKept h.ivor
 
 abbrev pub HiddenKept : Hidden → Type 0
 HiddenKept h = SavedKept h × TaskKept h × VectorsKept h

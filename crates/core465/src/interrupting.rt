@@ -21,6 +21,7 @@ fn entering(msr: Msr) -> Msr
 
 impl Core {
     /// Takes an interrupt: the core goes on at its vector, in supervisor state.
+    #[tactic(auto, unfolding(crate::specs::Interrupting::interrupted))]
     pub fn interrupt(&mut self, cause: Cause) -> Taken
         ensures answer { result ≡ taken cause self.old.working.pc }
         ensures after { self.new ≡ interrupted cause self.old }

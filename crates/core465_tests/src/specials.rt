@@ -1,6 +1,8 @@
 //! The special purpose registers in supervisor state: which there are, and the bits that each keeps.
-use core465::Core;
+use core465::hidden::Hidden;
+use core465::{Core, IllegalDeed};
 use cpu::deed::Privileged;
+use cpu::registers::{Shown, Working};
 
 /// The bits that a register keeps, by its number; none where supervisor state knows no such register by a privileged
 /// number.
@@ -19,27 +21,20 @@ fn kept(number: u32) -> Option<u32> {
     }
 }
 
-/// A value written to a register and read back into register 7, or none where there is no such register.
-fn through(number: u32, value: u32) -> Option<u32> {
+/// A value written to a register and read back into register 7.
+fn through(number: u32, value: u32) -> Result<u32, IllegalDeed> {
     let mut core = Core::new();
-    if !core.carry_out(Privileged::WriteSpecial { number, value }) {
-        return None;
-    }
-    if !core.carry_out(Privileged::ReadSpecial { rt: 7, number }) {
-        return None;
-    }
-    Some(core.working().word(7))
+    core.carry_out(Privileged::WriteSpecial { number, value })?;
+    core.carry_out(Privileged::ReadSpecial { rt: 7, number })?;
+    Ok(core.working().word(7))
 }
 
 #[test]
 fn every_number_keeps_its_bits(rt: HostRuntime) {
     for number in 0..1024u32 {
         for value in [0xFFFF_FFFFu32, 0x0000_0000, 0x5A5A_5A5A, 0xA5A5_A5A5] {
-            let expected = match kept(number) {
-                Some(bits) => Some(value & bits),
-                None => None,
-            };
-            assert_eq!(rt; through(number, value), expected);
+            let expected = kept(number).map(|bits| value & bits);
+            assert_eq!(rt; through(number, value).ok(), expected);
         }
     }
 }
@@ -48,19 +43,19 @@ fn every_number_keeps_its_bits(rt: HostRuntime) {
 #[test]
 fn a_write_changes_one_register(runtime: HostRuntime) {
     for written in 0..1024u32 {
-        if kept(written).is_some() {
-            let mut core = Core::new();
-            assert!(runtime;
-                core.carry_out(Privileged::WriteSpecial {
-                    number: written,
-                    value: 0xFFFF_FFFF,
-                })
-            );
-            for number in 0..1024u32 {
-                if core.carry_out(Privileged::ReadSpecial { rt: 3, number }) {
-                    let value = core.working().word(3);
-                    assert_eq!(runtime; value != 0, number == written);
-                }
+        let mut core = Core::new();
+        let write = Privileged::WriteSpecial {
+            number: written,
+            value: 0xFFFF_FFFF,
+        };
+        assert_eq!(runtime; core.carry_out(write).is_ok(), kept(written).is_some());
+        for number in 0..1024u32 {
+            if core
+                .carry_out(Privileged::ReadSpecial { rt: 3, number })
+                .is_ok()
+            {
+                let value = core.working().word(3);
+                assert_eq!(runtime; value != 0, number == written);
             }
         }
     }
@@ -70,14 +65,12 @@ fn a_write_changes_one_register(runtime: HostRuntime) {
 fn a_new_core_is_zero(runtime: HostRuntime) {
     for number in 0..1024u32 {
         let mut core = Core::new();
-        assert_eq!(runtime;
-            core.carry_out(Privileged::ReadSpecial { rt: 1, number }),
-            kept(number).is_some()
-        );
+        let read = core.carry_out(Privileged::ReadSpecial { rt: 1, number });
+        assert_eq!(runtime; read.is_ok(), kept(number).is_some());
         assert_eq!(runtime; core.working().word(1), 0);
     }
     let core = Core::new();
-    assert_eq!(runtime; core.working().pc, 0);
-    assert!(runtime; !core.shown().line && !core.working().reserved);
-    assert_eq!(runtime; core.shown().msr.word(), 0);
+    assert_eq!(runtime; core.working(), Working::default());
+    assert_eq!(runtime; core.shown(), Shown::default());
+    assert_eq!(runtime; core.hidden(), Hidden::default());
 }

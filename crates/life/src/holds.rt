@@ -25,6 +25,7 @@ pub struct Running {
     core: Core,
 }
 
+#[tactic(auto, unfolding(crate::specs::Lives::called))]
 impl Stopped {
     /// Makes a core: zero everywhere, the line down, stopped.
     pub fn new() -> Stopped
@@ -84,6 +85,7 @@ impl Stopped {
     }
 }
 
+#[tactic(auto, unfolding(crate::specs::Lives::called))]
 impl Running {
     /// One step.
     pub fn step<B: Bus>(&mut self, bus: &mut B) -> Answer

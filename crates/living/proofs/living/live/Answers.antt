@@ -8,12 +8,12 @@ use Rattle.isolation.proofs.Lives.{isolation}
 use Rattle.living.proofs.Chains.{lived-more, responses-more, way-more, held_bus, ending}
 use Rattle.living.proofs.living.live.Goals as goal
 
-pub returns-in-Err : goal.returns-in-Err
-returns-in-Err g c = record { law = isolation; answers = tt; leaves = refl; whole = tt }
+pub returns-in_err-answers-clause-law : goal.returns-in_err-answers-clause-law
+returns-in_err-answers-clause-law g c = isolation
 
 pub loop-command-init : goal.loop-command-init
 loop-command-init g c =
-    let made = c.in-Ok.ensures in
+    let made = c.in_ok-answers.ensures in
     let start = stopped (state_of c.new.result.core (g.B.Bus.model c.args.bus.now)) in
     ((made.len, made.capacity), ap (λ xs. xs ++ responses c.args.commands.now start) made.items, refl, here)
 
