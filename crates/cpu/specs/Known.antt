@@ -1,4 +1,5 @@
--- A write that may find no register: it answers whether it did, and leaves what was written or nothing changed. Assumes nothing.
+-- A write that may find no register: it answers by an error where it finds none, and leaves what was written or nothing changed.
+-- Assumes nothing.
 use Rattle.std.specs.Prelude.{◌≡◌, Some, None, Option, Ok, Result, IsErr}
 
 abbrev pub Known : {X E : Type 0} → Result Unit E → X → X → Option X → Type 0

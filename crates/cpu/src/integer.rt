@@ -63,6 +63,7 @@ impl Working {
         self.pc = self.pc.wrapping_add(4);
     }
 
+    // `Finishes` is in the contract of every such instruction: the registers that it leaves are its own each time.
     /// To the next instruction, with nothing left to do.
     pub(crate) fn proceed(&mut self) -> Deed
         ensures { Finishes result self.new (next self.old) }

@@ -184,6 +184,7 @@ impl Working {
         }
     }
 
+    // `Kept` stands in the clause and not in the type: anyone may build `Working`, with any counter.
     /// The register part of an instruction: it is done, or what is left to do is told and no register is altered yet.
     #[tactic(auto, using(crate::proofs::Kept::kept, crate::proofs::Kept::deed_kept), unfolding(crate::specs::Effects::effect))]
     pub fn perform(&mut self, shown: &Shown, instruction: Instruction) -> Deed

@@ -61,7 +61,7 @@ impl Access for StoreOp {
 impl Comparison {
     /// The primary opcode of the form with an immediate.
     pub fn opcode(self) -> u32
-        ensures { result ≡ compare_immediate_opcode self }
+        ensures { (result ≡ compare_immediate_opcode self) × (result < 64) }
     {
         match self {
             Comparison::Signed => 11,
@@ -73,7 +73,7 @@ impl Comparison {
 impl BareOp {
     /// The primary opcode.
     pub fn opcode(self) -> u32
-        ensures { result ≡ bare_opcode self }
+        ensures { (result ≡ bare_opcode self) × (result < 64) }
     {
         match self {
             BareOp::Rfi | BareOp::Isync => 19,

@@ -1,7 +1,7 @@
 //! A firmware image, loaded into a core and its bus.
 #![tactic(auto)]
 
-ghost use Rattle.std.specs.Prelude.{◌≡◌, ℕ, ◌+◌, ◌%◌, ◌^◌, ◌<◌, true, length, is_ok};
+ghost use Rattle.std.specs.Prelude.{◌≡◌, ℕ, ◌+◌, ◌*◌, ◌%◌, ◌^◌, ◌<◌, true, length, is_ok};
 ghost use Rattle.image.specs.Readers.{remaining};
 ghost use Rattle.image.specs.Records.{InRange};
 ghost use Rattle.image.specs.Values.{item};
@@ -16,10 +16,19 @@ use pages::Entry;
 use placing::place;
 
 /// Whether the bus serves the write of each byte of some data.
-fn serves<B: Bus>(bus: &B, data: Data) -> bool
-    ensures { result ≡ serves (B.Bus.model bus.now) (data.erpn * 2 ^ 32 + data.address) data.bytes.now }
+fn serves<B: Bus>(bus: &B, given: Data) -> bool
+    ensures { result ≡ serves (B.Bus.model bus.now) (given.entry.erpn * 2 ^ 32 + given.entry.address) given.entry.bytes.now }
 {
-    (data.real_address()..).zip(data.bytes).all(|(address, _)| bus.denial(Direction::Write, address, 1).is_none())
+    let address = given.real_address();
+    for (k, _) in given.bytes.iter().enumerate() {
+        if bus
+            .denial(Direction::Write, address + k as u64, 1)
+            .is_some()
+        {
+            return false;
+        }
+    }
+    true
 }
 
 /// Whether the bus takes the data of a record, if it has data.
@@ -27,7 +36,7 @@ fn accepts<B: Bus>(bus: &B, found: Record) -> bool
     ensures { result ≡ accepts (B.Bus.model bus.now) (item found.entry) }
 {
     match found {
-        Record::Data(data) => serves(bus, data),
+        Record::Data(given) => serves(bus, given),
         Record::Entry(_) | Record::Start(_) => true,
     }
 }
@@ -68,8 +77,8 @@ fn apply<B: Bus>(core: &mut Core, bus: &mut B, found: Record)
 {
     match found {
         Record::Entry(page) => core.set_entry(u32::from(page.number), entry_of(page)),
-        Record::Data(data) => {
-            let _ = place(bus, data.real_address(), data.bytes);
+        Record::Data(given) => {
+            let _ = place(bus, given.real_address(), given.bytes);
         }
         Record::Start(Start { counter, msr }) => {
             core.set_counter(counter);

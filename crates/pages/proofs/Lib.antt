@@ -1,2 +1,3 @@
 pub mod Sizes
 pub mod Known
+pub mod Searching
