@@ -11,6 +11,7 @@ use std::error::Error;
 use std::fmt;
 
 /// The bits that MSR keeps, and so SRR1.
+// The reader of images has this mask too: it has no crate of the core below it.
 const MSR_BITS: u32 = 0x0002_D230;
 
 /// What is put.

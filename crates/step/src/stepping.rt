@@ -52,6 +52,7 @@ impl From<IllegalDeed> for Stop {
 }
 
 /// Whether an access of this width may stand at the address.
+// A width is any number, and so a match: a rest by it would need that it is not 0.
 fn aligned(address: u32, width: u32) -> bool
     ensures { result ≡ aligned address width }
 {
