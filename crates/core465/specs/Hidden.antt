@@ -34,6 +34,7 @@ SavedKept h = (srr0_bits h.saved.srr0 ≡ h.saved.srr0) × (esr_bits h.saved.esr
 abbrev pub TaskKept : Hidden → Type 0
 TaskKept h = (pid_bits h.pid ≡ h.pid) × (pid_bits h.mmucr.stid ≡ h.mmucr.stid)
 
+-- each IVOR
 abbrev pub VectorKept : ℕ → Type 0
 VectorKept v = ivor_bits v ≡ v
 

@@ -18,6 +18,7 @@ pub enum LookRefusal {
 
 impl LookRefusal {
     /// The number by which the refusal is known.
+    // A match, since a case with a code in it has no discriminant to read by `as`.
     pub fn number(self) -> u32
         ensures { result ≡ look_number self }
     {
