@@ -186,7 +186,7 @@ pub fn operands<W: fmt::Write>(f: &mut fmt::Formatter<W>, instruction: Instructi
         Instruction::StoreConditional(i) => list(f, &indexed(i.rs, i.ra, i.rb)),
         Instruction::MoveFromXer { field } => list(f, &[Number(field)]),
         Instruction::Move(i) => list(f, &[Gpr(i.register)]),
-        Instruction::WriteExternalEnable { enable } => list(f, &[Number(enable as u32)]),
+        Instruction::WriteExternalEnable { enable } => list(f, &[Number(u32::from(enable))]),
         Instruction::MoveToConditionFields(i) => list(f, &[Number(i.mask), Gpr(i.rs)]),
         Instruction::MoveSpecial(i) => list(f, &moved(i)),
         Instruction::TlbWord(i) => list(f, &[Gpr(i.register), Gpr(i.ra), Number(i.word)]),

@@ -18,6 +18,9 @@ fn bare(f: Fields) -> bool
     f.first == 0 && f.second == 0 && f.third == 0 && !f.last
 }
 
+// A load and a store stay two functions, as their structs name the register differently: a load writes rt, and a store
+// reads rs.
+
 /// A load, where its registers are valid.
 fn read_load(op: LoadOp, update: bool, offset: Offset, f: Fields) -> Option<Instruction>
     ensures { result ≡ load_of op update offset f }

@@ -20,6 +20,8 @@ pub fn encode(instruction: Instruction) -> Option<u32>
 
 /// The word of a load or a store, whose registers are checked elsewhere: of the register that it moves, its base and its
 /// offset.
+// The base, the offset and the update are fields of `Load` and of `Store`, beside their register: a struct of the three
+// would be built for the two calls and taken apart here.
 fn access_word<O: Access>(
     op: O,
     register: Register,
@@ -30,13 +32,13 @@ fn access_word<O: Access>(
     ensures { result ≡ access_word (O.opcode_of op) (O.extended_of op) register base offset update }
 {
     match offset {
-        Offset::Displacement(d) => half_form(op.opcode() + update as u32, register, base, d),
+        Offset::Displacement(d) => half_form(op.opcode() + u32::from(update), register, base, d),
         Offset::Index(rb) => extended_form(
             31,
             register,
             base,
             rb,
-            op.extended() + 32 * update as u32,
+            op.extended() + 32 * u32::from(update),
             false,
         ),
     }
@@ -63,7 +65,7 @@ fn word_of(instruction: Instruction) -> Option<u32>
             access_word(i.op, i.rs, i.ra, i.offset, i.update)
         }
         Instruction::Branch(i) if i.displacement < 0x100_0000 => {
-            Some(0x4800_0000 + i.displacement * 4 + i.absolute as u32 * 2 + i.link as u32)
+            Some(0x4800_0000 + i.displacement * 4 + u32::from(i.absolute) * 2 + u32::from(i.link))
         }
         Instruction::BranchConditional(i) if valid_options(i.options) && i.displacement < 0x4000 =>
             {
@@ -71,7 +73,7 @@ fn word_of(instruction: Instruction) -> Option<u32>
                     16,
                     i.options,
                     i.bit,
-                    i.displacement * 4 + i.absolute as u32 * 2 + i.link as u32,
+                    i.displacement * 4 + u32::from(i.absolute) * 2 + u32::from(i.link),
                 )
             }
         Instruction::BranchRegister(i) if valid_branch(i.target, i.options) => extended_form(
@@ -115,7 +117,7 @@ fn word_of(instruction: Instruction) -> Option<u32>
             i.rt,
             i.ra,
             i.rb,
-            i.op as u32 + 512 * i.oe as u32,
+            i.op as u32 + 512 * u32::from(i.oe),
             i.rc,
         ),
         Instruction::ArithmeticUnary(i) => extended_form(
@@ -123,7 +125,7 @@ fn word_of(instruction: Instruction) -> Option<u32>
             i.rt,
             i.ra,
             0,
-            i.op as u32 + 512 * i.oe as u32,
+            i.op as u32 + 512 * u32::from(i.oe),
             i.rc,
         ),
         Instruction::MultiplyHigh(i) => extended_form(31, i.rt, i.ra, i.rb, i.op as u32, i.rc),
@@ -163,7 +165,7 @@ fn word_of(instruction: Instruction) -> Option<u32>
             31,
             0,
             0,
-            enable as u32 * 16,
+            u32::from(enable) * 16,
             163,
             false,
         ),

@@ -30,19 +30,20 @@ pub fn split(word: u32) -> Fields
 }
 
 /// The word of a primary opcode, two fields and a low half; none where one of them is too large.
+// The bound of an opcode is asked here and in `extended_form`, and promised by the methods that give one: a type of its
+// own would be wrapped around each number in `encoding`, and taken off again to add an update and to make the word.
 #[tactic(auto, unfolding(crate::specs::Fields::half_form))]
 pub fn half_form(primary: u32, first: u32, second: u32, low: u32) -> Option<u32>
     requires { primary < 64 }
     ensures { result ≡ half_form primary first second low }
 {
-    if first < 32 && second < 32 && low < 0x1_0000 {
-        Some(primary * 0x400_0000 + first * 0x20_0000 + second * 0x1_0000 + low)
-    } else {
-        None
-    }
+    (first < 32 && second < 32 && low < 0x1_0000).then(|| {
+        primary * 0x400_0000 + first * 0x20_0000 + second * 0x1_0000 + low
+    })
 }
 
 /// The word of a primary opcode, three fields, an extended opcode and the last bit; none where one of them is too large.
+// Numbers in the order of the word, and no struct: its names, with a default for the rest, would make each call longer.
 #[tactic(auto, unfolding(crate::specs::Fields::extended_form))]
 pub fn extended_form(
     primary: u32,
@@ -55,14 +56,8 @@ pub fn extended_form(
     requires { primary < 64 }
     ensures { result ≡ extended_form primary first second third extended last }
 {
-    if third < 32 && extended < 1024 {
-        half_form(
-            primary,
-            first,
-            second,
-            third * 2048 + extended * 2 + last as u32,
-        )
-    } else {
-        None
-    }
+    let low = (third < 32 && extended < 1024).then(|| {
+        third * 2048 + extended * 2 + u32::from(last)
+    })?;
+    half_form(primary, first, second, low)
 }

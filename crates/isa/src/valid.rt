@@ -19,6 +19,8 @@ pub fn valid_store(update: bool, ra: u32) -> bool
 }
 
 /// Whether the options of a conditional branch have no bit set that means nothing.
+// The options are a number and no struct of flags, the bits of their field as the word holds them: a narrower type would
+// ask more of a caller of `encode`, which refuses a number that is too large.
 pub fn valid_options(bo: u32) -> bool
     ensures { result ≡ options_valid bo }
 {
