@@ -1,14 +1,13 @@
 -- What supervisor state does with a privileged deed; none where it names a register that there is not. Assumes nothing.
-use Rattle.std.specs.Prelude.{ℕ, ◌+◌, ◌*◌, ◌%◌, Bool, true, false, cond, List, Some, None, Ok, Err, Option, Result, nat_lt, slice_index, slice_set}
-use Rattle.word.specs.Words.{bit}
-use Rattle.word.specs.Conditions.{with_field}
+use Rattle.std.specs.Prelude.{ℕ, ◌%◌, Bool, true, false, cond, List, Some, None, Ok, Err, Option, Result, nat_lt, slice_index, slice_set}
 use Rattle.cpu.specs.declared.registers.Working.{Working}
 use Rattle.cpu.specs.declared.registers.Shown.{Shown}
 use Rattle.cpu.specs.declared.registers.Msr.{Msr}
 use Rattle.cpu.specs.declared.special.NoSuchRegister.{NoSuchRegister}
 use Rattle.cpu.specs.declared.deed.Privileged.{Privileged}
 use Rattle.cpu.specs.declared.deed.Privileged.TheVariants.{ReadMsr, WriteMsr, WriteExternalEnable, Return, ReadSpecial, WriteSpecial, ReadEntry, WriteEntry, SearchEntries, Synchronize}
-use Rattle.cpu.specs.Registers.{next, with_gpr, with_cr, with_pc, msr_word, msr_from}
+use Rattle.cpu.specs.Registers.{next, with_gpr, with_pc, msr_word, msr_from}
+use Rattle.cpu.specs.Integer.{with_answer}
 use Rattle.pages.specs.declared.entry.Entry.{Entry}
 use Rattle.pages.specs.declared.entry.NoSuchWord.{NoSuchWord}
 use Rattle.pages.specs.declared.entry.Word.{Word}
@@ -108,7 +107,7 @@ write_entry n (Ok k) v m = Some (advanced (with_entries m (written m.entries n k
 
 -- tlbsx: the first match with STS and STID to a register, or nothing; tlbsx. tells in condition field 0 whether there is one
 abbrev pub reported : Bool → Bool → Working → Working
-reported rc hit w = cond rc (with_cr w (with_field w.cr 0 (bit hit * 2 + bit w.xer.so))) w
+reported rc hit w = cond rc (with_answer w hit) w
 
 abbrev pub searched : ℕ → Bool → Option ℕ → Machine → Machine
 searched rt rc None m = with_working m (next (reported rc false m.working))

@@ -12,13 +12,12 @@ use crate::hidden::{Hidden, Mmucr};
 use crate::machine::Core;
 use crate::special::Special;
 use cpu::deed::Privileged;
-use cpu::registers::{Msr, Shown, Working};
+use cpu::registers::{Shown, Working};
 use cpu::special::NoSuchRegister;
 use isa::instruction::Register;
 use pages::{NoSuchWord, Pages, VirtualAddress, Word};
 use std::error::Error;
 use std::fmt;
-use word::condition;
 
 /// A deed that names a register, or a word of a page entry, that there is not.
 #[derive(Clone, Copy, PartialEq, Eq, Debug)]
@@ -53,6 +52,7 @@ impl Core {
     pub fn new() -> Core
         ensures { result ≡ new_machine }
     {
+        // Part by part, and not derived: the invariant is proved at this literal.
         Core {
             working: Working::default(),
             shown: Shown::default(),
@@ -74,13 +74,6 @@ impl Core {
     {
         self.working.set_word(rt, value);
         self.working.advance();
-    }
-
-    /// Another MSR.
-    fn set_msr(&mut self, msr: Msr)
-        ensures { self.new ≡ with_msr self.old msr }
-    {
-        self.shown.msr = msr;
     }
 
     /// rfi.
@@ -165,8 +158,7 @@ impl Core {
         ensures { self.new ≡ with_working self.old (reported rc hit self.old.working) }
     {
         if rc {
-            let field = u32::from(hit) * 2 + u32::from(self.working.xer.so);
-            self.working.cr = condition::with_field(self.working.cr, 0, field);
+            self.working.record_answer(hit);
         }
     }
 
@@ -194,7 +186,7 @@ impl Core {
         match deed {
             Privileged::ReadMsr { rt } => self.give(rt, u32::from(self.shown.msr)),
             Privileged::WriteMsr { value } => {
-                self.set_msr(Msr::from(value));
+                self.set_msr_word(value);
                 self.advance();
             }
             Privileged::WriteExternalEnable { enable } => {

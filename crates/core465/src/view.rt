@@ -1,7 +1,7 @@
 //! What a core holds, as copies to look at.
 ghost use Rattle.std.specs.Prelude.{◌≡◌};
 ghost use Rattle.cpu.specs.Kept.{Kept};
-ghost use Rattle.pages.specs.Entries.{AllKept};
+ghost use Rattle.pages.specs.Entries.{AllKept, Kept as EntryKept};
 ghost use Rattle.core465.specs.Hidden.{HiddenKept};
 ghost use Rattle.pages.specs.Tables.{selected};
 
@@ -37,7 +37,8 @@ impl Core {
     /// The page entry that the low six bits of a number name.
     pub fn entry(&self, number: u32) -> Entry
         ensures value { result ≡ selected self.now.entries number }
-        ensures kept { AllKept self.now.entries }
+        ensures kept { EntryKept result }
+        ensures all { AllKept self.now.entries }
     {
         self.pages.entry(number)
     }

@@ -1,5 +1,5 @@
 -- What an integer instruction leaves in the working registers, but for the counter. Assumes nothing.
-use Rattle.std.specs.Prelude.{ℕ, ◌+◌, ◌%◌, Bool, true, false, cond, ◌||◌}
+use Rattle.std.specs.Prelude.{ℕ, ◌+◌, ◌*◌, ◌%◌, Bool, true, false, cond, ◌||◌}
 use Rattle.isa.specs.declared.instruction.ImmediateOp.{ImmediateOp}
 use Rattle.isa.specs.declared.instruction.ImmediateOp.TheVariants.{Addi, Addis, Addic, AddicRecord, Subfic, Mulli}
 use Rattle.isa.specs.declared.instruction.LogicalImmediateOp.{LogicalImmediateOp}
@@ -36,6 +36,10 @@ xer_after oe o x = record { so = x.so || (cond oe o.overflow false); ov = cond o
 -- condition field 0 after a result: how it compares with zero, and SO
 abbrev pub with_cr0 : Working → ℕ → Working
 with_cr0 w v = with_cr w (with_field w.cr 0 (relation_signed v 0 + bit w.xer.so))
+
+-- condition field 0 after an answer: 0, 0, whether it is yes, and SO
+abbrev pub with_answer : Working → Bool → Working
+with_answer w answer = with_cr w (with_field w.cr 0 (bit answer * 2 + bit w.xer.so))
 
 -- the end of every integer instruction: the word to its register, XER, and with Rc condition field 0
 unfoldable pub completed : ℕ → Outcome → Bool → Bool → Working → Working

@@ -1,6 +1,6 @@
 -- The loads and stores: their addresses, what is loaded and stored, and what they leave in the working registers once the
 -- access is made. Assumes nothing.
-use Rattle.std.specs.Prelude.{ℕ, ◌+◌, ◌*◌, ◌%◌, Bool, true, false, cond, ◌||◌, Some, None, Option}
+use Rattle.std.specs.Prelude.{ℕ, ◌+◌, ◌%◌, Bool, true, false, cond, ◌||◌, Some, None, Option}
 use Rattle.isa.specs.declared.instruction.Offset.{Offset}
 use Rattle.isa.specs.declared.instruction.Offset.TheVariants.{Displacement, Index}
 use Rattle.isa.specs.declared.instruction.LoadOp.{LoadOp}
@@ -16,14 +16,14 @@ use Rattle.isa.specs.declared.instruction.Store.{Store}
 use Rattle.isa.specs.declared.instruction.LoadIndexed.{LoadIndexed}
 use Rattle.isa.specs.declared.instruction.StoreIndexed.{StoreIndexed}
 use Rattle.isa.specs.declared.instruction.StoreConditional.{StoreConditional}
-use Rattle.word.specs.Words.{wrap, bit, extended, reversed, reversed_half}
-use Rattle.word.specs.Conditions.{with_field}
+use Rattle.word.specs.Words.{wrap, extended, reversed, reversed_half}
 use Rattle.cpu.specs.declared.registers.Working.{Working}
 use Rattle.cpu.specs.declared.deed.Conversion.{Conversion}
 use Rattle.cpu.specs.declared.deed.Conversion.TheVariants.{Plain, SignedHalf, ReversedHalf, ReversedWord}
 use Rattle.cpu.specs.declared.deed.Loading.{Loading}
 use Rattle.cpu.specs.declared.deed.Storing.{Storing}
-use Rattle.cpu.specs.Registers.{gpr_of, base_of, next, with_gpr, with_cr, with_reserved}
+use Rattle.cpu.specs.Registers.{gpr_of, base_of, next, with_gpr, with_reserved}
+use Rattle.cpu.specs.Integer.{with_answer}
 
 -- an effective address: the base, where register 0 stands for zero, and a displacement extended by its sign or a register
 abbrev pub offset_of : Working → Offset → ℕ
@@ -150,7 +150,7 @@ storing_conditional i w = record {
 
 -- a conditional store's end: condition field 0 is 0, 0, whether it stored, SO; the reservation is gone
 unfoldable pub settled : Bool → Working → Working
-settled stored w = next (with_reserved (with_cr w (with_field w.cr 0 (bit stored * 2 + bit w.xer.so))) false)
+settled stored w = next (with_reserved (with_answer w stored) false)
 
 -- a store's end
 unfoldable pub stored : Storing → Working → Working

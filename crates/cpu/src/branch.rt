@@ -10,6 +10,8 @@ use isa::instruction::{Branch, BranchConditional, BranchRegister, BranchTarget};
 use word::condition;
 use word::sign::extend;
 
+// The options are the field's bits as the word holds them, read by their weights. A test is built by its fields' names:
+// both are numbers, and the arguments of a constructor could stand the wrong way round.
 /// What a conditional branch asks: its options BO, and BI, the bit of the condition register that they test.
 #[derive(Clone, Copy)]
 struct Test {
@@ -19,7 +21,7 @@ struct Test {
 
 impl Working {
     /// The next instruction's address.
-    fn after(&self) -> u32
+    pub(crate) fn after(&self) -> u32
         ensures { result ≡ after self.now }
     {
         self.pc.wrapping_add(4)

@@ -14,6 +14,7 @@ pub enum Conversion {
 #[derive(Clone, Copy, PartialEq, Eq, Debug)]
 pub struct Loading {
     pub address: u32,
+    // A number of bytes, as a bus takes it.
     pub width: u32,
     pub rt: Register,
     pub conversion: Conversion,
@@ -27,6 +28,7 @@ pub struct Loading {
 #[derive(Clone, Copy, PartialEq, Eq, Debug)]
 pub struct Storing {
     pub address: u32,
+    // A number of bytes, as a bus takes it.
     pub width: u32,
     pub value: u32,
     /// The base register, where it gets the address.
@@ -62,7 +64,8 @@ pub enum Privileged {
         number: u32,
         value: u32,
     },
-    // The number of a word is any: the core that carries the deed out refuses the numbers that name none.
+    // The number of a word is any, in both deeds: an enum would make `perform` refuse words of instructions that are built
+    // by hand. The core that carries a deed out refuses the numbers that name none.
     /// tlbre.
     ReadEntry {
         rt: Register,

@@ -2,7 +2,7 @@
 ghost use Rattle.std.specs.Prelude.{◌≡◌, ℕ, ◌<◌};
 ghost use Rattle.cpu.specs.Registers.{gpr_of, base_of, with_gpr, next};
 ghost use Rattle.cpu.specs.Deeds.{Finishes};
-ghost use Rattle.cpu.specs.Integer.{xer_after, with_cr0, completed, immediate, immediate_operand, immediate_records, logical_immediate, logical_immediate_records, arithmetic, arithmetic_unary, multiply_high, logical, logical_unary, shift_right_immediate, rotate, rotate_amount, select, compared, with_comparison, compare, comparand, compare_immediate};
+ghost use Rattle.cpu.specs.Integer.{xer_after, with_cr0, with_answer, completed, immediate, immediate_operand, immediate_records, logical_immediate, logical_immediate_records, arithmetic, arithmetic_unary, multiply_high, logical, logical_unary, shift_right_immediate, rotate, rotate_amount, select, compared, with_comparison, compare, comparand, compare_immediate};
 
 use crate::deed::Deed;
 use crate::operation::{
@@ -60,10 +60,11 @@ impl Working {
     pub fn advance(&mut self)
         ensures { self.new ≡ next self.old }
     {
-        self.pc = self.pc.wrapping_add(4);
+        self.pc = self.after();
     }
 
-    // `Finishes` is in the contract of every such instruction: the registers that it leaves are its own each time.
+    // `Finishes` is in the contract of every such instruction, with the registers that it leaves: a shorter form would hide
+    // which.
     /// To the next instruction, with nothing left to do.
     pub(crate) fn proceed(&mut self) -> Deed
         ensures { Finishes result self.new (next self.old) }
@@ -77,6 +78,14 @@ impl Working {
         ensures { self.new ≡ with_cr0 self.old value }
     {
         let field = condition::compare_signed(value, 0) + u32::from(self.xer.so);
+        self.cr = condition::with_field(self.cr, 0, field);
+    }
+
+    /// Condition field 0 from an answer: 0, 0, whether it is yes, and SO.
+    pub fn record_answer(&mut self, answer: bool)
+        ensures { self.new ≡ with_answer self.old answer }
+    {
+        let field = u32::from(answer) * 2 + u32::from(self.xer.so);
         self.cr = condition::with_field(self.cr, 0, field);
     }
 

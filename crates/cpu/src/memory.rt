@@ -12,7 +12,6 @@ use isa::instruction::{
     Load, LoadIndexed, LoadIndexedOp, LoadOp, Offset, Register, Store, StoreConditional,
     StoreIndexed, StoreIndexedOp, StoreOp,
 };
-use word::condition;
 use word::sign::{extend, reverse, reverse_half};
 
 /// A kind of load: how many bytes it reads, how they become a word, and whether it sets the reservation.
@@ -142,6 +141,7 @@ impl StoreKind for StoreIndexedOp {
     }
 }
 
+// Loads and stores build it from the same fields of two types: a constructor would take the same three.
 /// Where an access is made: a base register, what is added to it, and whether the base register gets the address.
 #[derive(Clone, Copy)]
 struct Place {
@@ -316,8 +316,7 @@ impl Working {
         ensures after { self.new ≡ settled stored self.old }
         ensures kept { Kept self.old → Kept self.new }
     {
-        let field = u32::from(stored) * 2 + u32::from(self.xer.so);
-        self.cr = condition::with_field(self.cr, 0, field);
+        self.record_answer(stored);
         self.reserved = false;
         self.advance();
     }

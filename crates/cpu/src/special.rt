@@ -45,6 +45,12 @@ impl From<u32> for Xer {
     }
 }
 
+impl Msr {
+    // The reader of images has this mask too: it has no crate of the core below it.
+    /// The bits of a word that MSR keeps.
+    pub const BITS: u32 = 0x0002_D230;
+}
+
 impl From<Msr> for u32 {
     ghost from_gives = { λ msr word. word ≡ msr_word msr };
 

@@ -18,7 +18,8 @@ pub enum LookRefusal {
 
 impl LookRefusal {
     /// The number by which the refusal is known.
-    // A match, since a case with a code in it has no discriminant to read by `as`.
+    // A match, since a case with a code in it has no discriminant to read by `as`. Each refusal has its number in its own
+    // type: a trait for them would serve one call each.
     pub fn number(self) -> u32
         ensures { result ≡ look_number self }
     {

@@ -5,14 +5,11 @@ ghost use Rattle.service.specs.Putting.{fits, mask_of, put_number, put_special, 
 ghost use Rattle.service.specs.declared.putting.PutRefusal.TheVariants.{Unfit};
 
 use core465::Core;
+use cpu::registers::Msr;
 use cpu::special::NoSuchRegister;
 use pages::Entry;
 use std::error::Error;
 use std::fmt;
-
-/// The bits that MSR keeps, and so SRR1.
-// The reader of images has this mask too: it has no crate of the core below it.
-const MSR_BITS: u32 = 0x0002_D230;
 
 /// What is put.
 #[derive(Clone, Copy, PartialEq, Eq, Debug)]
@@ -56,6 +53,7 @@ impl From<NoSuchRegister> for PutRefusal {
 }
 
 impl PutRefusal {
+    // Each refusal has its number in its own type: a trait for them would serve one call each.
     /// The number by which the refusal is known.
     pub fn number(self) -> u32
         ensures { result ≡ put_number self }
@@ -71,6 +69,7 @@ fn fits(mask: u32, word: u32) -> bool
     word & mask == word
 }
 
+// The rule of a put, as masks by number; the registers of a core keep by operations of their own, with no mask to take.
 /// The bits that the special purpose register of a number keeps, if supervisor state may write it.
 fn mask_of(number: u32) -> Option<u32>
     ensures { result ≡ mask_of number }
@@ -79,7 +78,7 @@ fn mask_of(number: u32) -> Option<u32>
         1 => Some(0xE000_007F),
         8 | 9 | 61 | 256 | 272..=279 => Some(0xFFFF_FFFF),
         26 => Some(0xFFFF_FFFC),
-        27 => Some(MSR_BITS),
+        27 => Some(Msr::BITS),
         48 => Some(0x0000_00FF),
         62 => Some(0x0E80_0000),
         63 => Some(0xFFFF_0000),
@@ -110,7 +109,7 @@ pub fn put_value(core: &mut Core, what: Put) -> Result<(), PutRefusal>
     match what {
         Put::Gpr { number, value } if number < 32 => core.set_word(number, value),
         Put::Special { number, value } => put_special(core, number, value)?,
-        Put::Msr(word) if fits(MSR_BITS, word) => core.set_msr_word(word),
+        Put::Msr(word) if fits(Msr::BITS, word) => core.set_msr_word(word),
         Put::Counter(counter) if counter % 4 == 0 => core.set_counter(counter),
         Put::Entry { number, entry } if number < 64 && entry.is_kept() => {
             core.set_entry(number, entry)

@@ -5,6 +5,7 @@ ghost use Rattle.word.specs.Conditions.{relation, relation_signed, traps, field_
 use crate::sign::bias;
 use std::cmp::Ordering;
 
+// A number and no enum of orders: it is the field's bits as the condition register holds them.
 /// How two words compare, as a condition field without its last bit: 8 for less, 4 for greater, 2 for equal.
 pub fn compare(a: u32, b: u32) -> u32
     ensures { result ≡ relation a b }
@@ -29,16 +30,16 @@ pub fn traps(conditions: u32, a: u32, b: u32) -> bool
     ensures { result ≡ traps conditions a b }
 {
     let signed = match bias(a).cmp(&bias(b)) {
-        Ordering::Less => conditions / 16,
-        Ordering::Greater => conditions / 8,
-        Ordering::Equal => conditions / 4,
+        Ordering::Less => conditions / 16 % 2 == 1,
+        Ordering::Greater => conditions / 8 % 2 == 1,
+        Ordering::Equal => conditions / 4 % 2 == 1,
     };
     let unsigned = match a.cmp(&b) {
-        Ordering::Less => conditions / 2,
-        Ordering::Greater => conditions,
-        Ordering::Equal => conditions / 4,
+        Ordering::Less => conditions / 2 % 2 == 1,
+        Ordering::Greater => conditions % 2 == 1,
+        Ordering::Equal => conditions / 4 % 2 == 1,
     };
-    signed % 2 == 1 || unsigned % 2 == 1
+    signed || unsigned
 }
 
 /// A field of the condition register, by the low three bits of its number.
@@ -75,7 +76,7 @@ pub fn with_bit(cr: u32, number: u32, value: bool) -> u32
 pub fn field_mask(mask: u32) -> u32
     ensures { result ≡ field_mask mask }
 {
-    // One term for each field: as a sum over an iterator of the fields its proof did not close.
+    // One term for each field: the prover does not follow a sum over an iterator of the fields.
     mask / 128 % 2 * 0xF000_0000
         + mask / 64 % 2 * 0x0F00_0000
         + mask / 32 % 2 * 0x00F0_0000
