@@ -74,7 +74,7 @@ fn classify(character: u8) -> Symbol
         b'0'..=b'9' => Symbol::Digit(character - b'0'),
         b'A'..=b'F' => Symbol::Digit(character - b'A' + 10),
         b'a'..=b'f' => Symbol::Digit(character - b'a' + 10),
-        b'\t' | b'\n' | 0x0C | b'\r' | b' ' => Symbol::Space,
+        space if space.is_ascii_whitespace() => Symbol::Space,
         _ => Symbol::Other,
     }
 }
@@ -112,6 +112,7 @@ fn gather(heap: Global, mut digits: &[u8]) -> Result<Vec<u8>, AllocError>
     ensures { IfOk result (λ v. v.items ≡ pairs digits.now) }
 {
     let mut bytes = Vec::new(heap);
+    // Two from the front in each turn, as `pairs` says it: chunks are no plainer, and their law would need one more for pairs.
     while let [high, low, rest @ ..] = digits {
         bytes.push(high * 16 + low)?;
         digits = rest;

@@ -1,6 +1,6 @@
+//! The reader of a firmware image: a version byte, then records, which are handed out as parts of the image.
 #![tactic(auto)]
 
-// The reader of a firmware image: a version byte, then records, which are handed out as parts of the image.
 mod parse;
 mod reader;
 mod record;

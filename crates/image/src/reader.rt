@@ -1,4 +1,4 @@
-// The records of an image, one by one.
+//! The records of an image, one by one.
 ghost use Rattle.std.specs.Prelude.{◌≡◌};
 ghost use Rattle.image.specs.Reading.{begin, offset_of, step, records, counted};
 ghost use Rattle.image.specs.Format.{Law};
@@ -96,6 +96,7 @@ pub fn check(image: &[u8]) -> Result<usize, Refusal>
     ensures counts { result ≡ counted (records image.now) }
     ensures lawful { Law }
 {
+    // Counted by hand: the iterator's `count` would count a refusal too, and the closure of a fold knows no bound of the count.
     let mut count = 0;
     for record in Reader::open(image)? {
         record?;

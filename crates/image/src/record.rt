@@ -1,4 +1,4 @@
-// What the records of an image hold.
+//! What the records of an image hold.
 ghost use Rattle.std.specs.Prelude.{◌≡◌, ◌+◌, ◌*◌, ◌^◌, ◌<◌};
 ghost use Rattle.image.specs.Records.{is_start};
 ghost use Rattle.image.specs.Values.{item};
@@ -25,7 +25,7 @@ pub struct Data<'a> {
     pub bytes: &'a [u8],
 }
 
-impl<'a> Data<'a> {
+impl Data<'_> {
     /// The real address of the first byte.
     pub fn real_address(&self) -> u64
         ensures value { result ≡ self.now.erpn * 2 ^ 32 + self.now.address }
@@ -53,7 +53,7 @@ pub enum Record<'a> {
     Start(Start),
 }
 
-impl<'a> Record<'a> {
+impl Record<'_> {
     /// Whether the record starts the core.
     pub fn is_start(&self) -> bool
         ensures { result ≡ is_start (item self.now) }

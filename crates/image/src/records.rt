@@ -1,4 +1,4 @@
-// The records of an image in a loop.
+//! The records of an image in a loop.
 ghost use Rattle.std.specs.Prelude.{◌≡◌, Some};
 ghost use Rattle.std.specs.Iterator.{at_most};
 ghost use Rattle.image.specs.Readers.{Turn, turns_left};

@@ -1,4 +1,4 @@
-// Why an image is refused, and where.
+//! Why an image is refused, and where.
 ghost use Rattle.std.specs.Prelude.{◌≡◌};
 ghost use Rattle.image.specs.Reasons.{number_of, refusal_at};
 

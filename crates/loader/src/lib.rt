@@ -16,27 +16,20 @@ use pages::Entry;
 use placing::place;
 
 /// Whether the bus serves the write of each byte of some data.
-fn serves<B: Bus>(bus: &B, given: Data) -> bool
-    ensures { result ≡ serves (B.Bus.model bus.now) (given.entry.erpn * 2 ^ 32 + given.entry.address) given.entry.bytes.now }
+fn serves<B: Bus>(bus: &B, data: Data) -> bool
+    ensures { result ≡ serves (B.Bus.model bus.now) («data».entry.erpn * 2 ^ 32 + «data».entry.address) «data».entry.bytes.now }
 {
-    let address = given.real_address();
-    for (k, _) in given.bytes.iter().enumerate() {
-        if bus
-            .denial(Direction::Write, address + k as u64, 1)
-            .is_some()
-        {
-            return false;
-        }
-    }
-    true
+    let begin = data.real_address();
+    let end = begin + data.bytes.len() as u64;
+    (begin..end).all(|address| bus.denial(Direction::Write, address, 1).is_none())
 }
 
-/// Whether the bus takes the data of a record, if it has data.
-fn accepts<B: Bus>(bus: &B, found: Record) -> bool
-    ensures { result ≡ accepts (B.Bus.model bus.now) (item found.entry) }
+/// Whether the bus takes the data of a part of an image, a record, if it has data.
+fn accepts<B: Bus>(bus: &B, part: Record) -> bool
+    ensures { result ≡ accepts (B.Bus.model bus.now) (item part.entry) }
 {
-    match found {
-        Record::Data(given) => serves(bus, given),
+    match part {
+        Record::Data(data) => serves(bus, data),
         Record::Entry(_) | Record::Start(_) => true,
     }
 }
@@ -46,19 +39,20 @@ fn screen<B: Bus>(bus: &B, image: &[u8]) -> Result<(), Refusal>
     ensures { result ≡ checked (screened (B.Bus.model bus.now) image.now) }
 {
     let mut reader = Reader::open(image)?;
+    // No `for`: a record that is denied is told by its offset, which the reader knows before it hands the record out.
     loop {
         let offset = reader.offset();
-        let Some(found) = reader.next()? else {
+        let Some(part) = reader.next()? else {
             return Ok(());
         };
-        if !accepts(bus, found) {
+        if !accepts(bus, part) {
             return Err(Reason::Denied.at(offset));
         }
     }
 }
 
 /// A page entry of an image, as the table holds it.
-// No `From`: its impl would stand in the crate of one of the two types, which know nothing of each other.
+// A function and no `From`: an impl must stand with one of the two types, and neither crate knows the other.
 fn entry_of(page: PageEntry) -> Entry
     ensures { result ≡ entry_of page }
 {
@@ -71,14 +65,15 @@ fn entry_of(page: PageEntry) -> Entry
 }
 
 /// Loads a record.
-fn apply<B: Bus>(core: &mut Core, bus: &mut B, found: Record)
-    requires { InRange (item found) }
-    ensures { state_of core.new (B.Bus.model bus.new) ≡ applied (item found.entry) (state_of core.old (B.Bus.model bus.old)) }
+fn apply<B: Bus>(core: &mut Core, bus: &mut B, part: Record)
+    requires { InRange (item part) }
+    ensures { state_of core.new (B.Bus.model bus.new) ≡ applied (item part.entry) (state_of core.old (B.Bus.model bus.old)) }
 {
-    match found {
+    match part {
         Record::Entry(page) => core.set_entry(u32::from(page.number), entry_of(page)),
-        Record::Data(given) => {
-            let _ = place(bus, given.real_address(), given.bytes);
+        Record::Data(data) => {
+            // The image was checked against the bus, so that no denial can come.
+            let _ = place(bus, data.real_address(), data.bytes);
         }
         Record::Start(Start { counter, msr }) => {
             core.set_counter(counter);
@@ -92,13 +87,15 @@ fn apply_all<B: Bus>(core: &mut Core, bus: &mut B, mut reader: Reader)
     requires { is_ok (remaining reader) ≡ true }
     ensures { state_of core.new (B.Bus.model bus.new) ≡ (loaded_by (remaining reader.entry) (state_of core.old (B.Bus.model bus.old))).state }
 {
-    while let Ok(Some(found)) = reader.next() {
-        apply(core, bus, found);
+    // No `for`: it would have to say what comes of a refusal, and none is left in an image that was checked.
+    while let Ok(Some(part)) = reader.next() {
+        apply(core, bus, part);
     }
 }
 
 /// Loads an image: it is checked whole, and where it is refused nothing changes. Else its entries and bytes, its counter and
 /// its MSR are set, and nothing else.
+// A core and a bus are lent apart, and not as one value: a hold lends its core and not its bus.
 pub fn load<B: Bus>(core: &mut Core, bus: &mut B, image: &[u8]) -> Result<(), Refusal>
     ensures does { ◌≡◌ {A = Loaded} (record { answer = result; state = state_of core.new (B.Bus.model bus.new) }) (loaded image.now (state_of core.old (B.Bus.model bus.old))) }
     ensures lawful { LoadingLaw }

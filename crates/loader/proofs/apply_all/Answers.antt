@@ -7,13 +7,13 @@ use Rattle.loader.specs.Loading.{loaded_by}
 use Rattle.loader.proofs.Applying.{more_ok, more-loaded}
 use Rattle.loader.proofs.apply_all.Goals as goal
 
-pub loop-found-preserved : goal.loop-found-preserved
-loop-found-preserved g c =
-    let i = item c.in-Ok-Some.found in
+pub loop-part-preserved : goal.loop-part-preserved
+loop-part-preserved g c =
+    let i = item c.in-Ok-Some.part in
     let r = remaining c.next.new.self in
-    let whole : more i r ≡ remaining c.loop-found.reader = simp c.in-Ok-Some.field-0-is at c.in-Ok-Some.ensures.whole in
-    let ok : is_ok (more i r) ≡ true = ap is_ok whole ∙ c.loop-found.invariant.0 in
-    let s = state_of c.loop-found.core (g.B.Bus.model c.loop-found.bus) in (
+    let whole : more i r ≡ remaining c.loop-part.reader = simp c.in-Ok-Some.field-0-is at c.in-Ok-Some.ensures.whole in
+    let ok : is_ok (more i r) ≡ true = ap is_ok whole ∙ c.loop-part.invariant.0 in
+    let s = state_of c.loop-part.core (g.B.Bus.model c.loop-part.bus) in (
       more_ok i r ok,
-      ap (λ (t : State). (loaded_by r t).state) c.apply.ensures ∙ more-loaded i r s ok ∙ ap (λ x. (loaded_by x s).state) whole ∙ c.loop-found.invariant.1,
+      ap (λ (t : State). (loaded_by r t).state) c.apply.ensures ∙ more-loaded i r s ok ∙ ap (λ x. (loaded_by x s).state) whole ∙ c.loop-part.invariant.1,
     )

@@ -4,11 +4,11 @@ use Rattle.step.specs.Steps.{state_of}
 use Rattle.loader.specs.Loading.{loaded_by}
 use Rattle.loader.proofs.apply_all.Given as goal
 
-abbrev pub invariant-loop-found : goal.invariant-loop-found
-invariant-loop-found g l =
+abbrev pub invariant-loop-part : goal.invariant-loop-part
+invariant-loop-part g l =
     (is_ok (remaining l.reader) ≡ true)
     × ((loaded_by (remaining l.reader) (state_of l.core (g.B.Bus.model l.bus))).state
     ≡ (loaded_by (remaining l.initial.reader) (state_of l.initial.core (g.B.Bus.model l.initial.bus))).state)
 
-abbrev pub decreases-loop-found : goal.decreases-loop-found
-decreases-loop-found g l = length l.reader.rest.now
+abbrev pub decreases-loop-part : goal.decreases-loop-part
+decreases-loop-part g l = length l.reader.rest.now
