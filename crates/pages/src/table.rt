@@ -26,7 +26,7 @@ impl Error for NoSuchEntry {}
 /// The page entries, by number.
 #[derive(Drop)]
 pub struct Pages {
-    // Anyone may build a table of any entries, so that all are kept is said by the methods, and by no ghost field.
+    // Anyone may build a table of any entries; so the methods say that all are kept, and no ghost field does.
     pub entries: [Entry; 64],
 }
 
@@ -36,18 +36,10 @@ impl Pages {
         ensures value { result.entries ≡ replicate 64 blank }
         ensures kept { AllKept result.entries }
     {
+        // Written out: of a derived `Default` the proof that its 64 entries are zero does not close.
         Pages {
             entries: [Entry::default(); 64],
         }
-    }
-
-    /// The place of the first entry that the address matches.
-    #[tactic(auto, unfolding(crate::specs::Matching::found))]
-    fn first(&self, address: &VirtualAddress) -> Option<usize>
-        ensures value { result ≡ found self.now.entries address.now }
-        ensures lowest { Lowest self.now.entries address.now result }
-    {
-        self.entries.iter().position(|entry| entry.matches(address))
     }
 
     /// The number of the first entry that the address matches.
@@ -56,7 +48,11 @@ impl Pages {
         ensures lowest { Lowest self.now.entries address result }
         ensures number { IfSome result (λ n. n < 64) }
     {
-        self.first(&address).map(|number| number as u32)
+        let number = self
+            .entries
+            .iter()
+            .position(|entry| entry.matches(&address))?;
+        Some(number as u32)
     }
 
     /// The real address of an access to the address, which needs the right.
