@@ -1,5 +1,5 @@
 //! What a core holds, as copies to look at.
-ghost use Rattle.std.specs.Prelude.{◌≡◌};
+ghost use Rattle.std.specs.Prelude.{◌≡◌, length};
 ghost use Rattle.cpu.specs.Kept.{Kept};
 ghost use Rattle.pages.specs.Entries.{AllKept, Kept as EntryKept};
 ghost use Rattle.core465.specs.Hidden.{HiddenKept};
@@ -39,6 +39,7 @@ impl Core {
         ensures value { result ≡ selected self.now.entries number }
         ensures kept { EntryKept result }
         ensures all { AllKept self.now.entries }
+        ensures count { length self.now.entries ≡ 64 }
     {
         self.pages.entry(number)
     }

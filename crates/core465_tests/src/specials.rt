@@ -73,4 +73,7 @@ fn a_new_core_is_zero(runtime: HostRuntime) {
     assert_eq!(runtime; core.working(), Working::default());
     assert_eq!(runtime; core.shown(), Shown::default());
     assert_eq!(runtime; core.hidden(), Hidden::default());
+    assert_eq!(runtime; core.working().pc, 0);
+    assert!(runtime; !core.shown().line && !core.working().reserved);
+    assert_eq!(runtime; u32::from(core.shown().msr), 0);
 }

@@ -77,7 +77,15 @@ unread_of None = 0
 abbrev pub turns_left : Records → ℕ
 turns_left s = unread_of s.reader
 
--- what a loop sees in a turn, with what is to come after it, is what was to come before it; a record is in range
+-- what ends a loop lets the reader go
+abbrev pub Over : Option (Result Record Refusal) → Records → Type 0
+Over (Some (Ok r)) t = Unit {0}
+Over (Some (Err e)) t = t.reader ≡ None
+Over None t = t.reader ≡ None
+
+-- what a loop sees in a turn, with what is to come after it, is what was to come before it; a record is in range, and after a
+-- refusal or the end nothing comes
 pub record Turn (s : Records) (seen : Option (Result Record Refusal)) (t : Records) : Type 0 where
   pub whole : told (option_transpose seen) (to_come t) ≡ to_come s
   pub ranges : Ranges (option_transpose seen)
+  pub over : Over seen t

@@ -11,3 +11,4 @@ mod valid;
 
 pub use decoding::decode;
 pub use encoding::encode;
+pub use opcodes::Access;
