@@ -11,8 +11,8 @@ ghost use Rattle.bus.specs.declared.Direction.{Direction};
 /// How many bytes a frame has. Frames begin at the multiples of it.
 pub const FRAME: u64 = 1024;
 
+// A number and no enum: each bus has codes of its own.
 /// Why an access is denied: a number from 1 to 254, of which a bus has its own but for `ABSENT` and `MALFORMED`.
-// It is no enum, since each bus has codes of its own, and none could list them all.
 pub type Code = u8;
 
 /// The frame is absent: of the well-formed accesses of a frame all get this code, or none does.
@@ -28,6 +28,7 @@ pub enum Direction {
     Write,
 }
 
+// No struct for an address and a width: any numbers may be asked, and the rules speak of each alone.
 /// What every bus does.
 ///
 /// A real address has 36 bits, and a frame is 1,024 bytes at a multiple of 1,024. A bus is known by its
@@ -42,7 +43,6 @@ pub enum Direction {
 ///   denied with 254, before any other code.
 /// - Code 1 says that the frame is absent: of the well-formed accesses of a frame all get it, or none does.
 ///   A byte of an absent frame counts as zero, and the frames from 2^26 on are absent.
-// Address and width are plain numbers, since a bus answers any: a type of well-formed accesses would move its test to every caller.
 pub trait Bus {
     /// The model: bytes and wiring.
     ghost model: { Self → Model };

@@ -92,7 +92,7 @@ impl Bus for FlagPage {
 
     fn read(&self, address: u64, width: u32) -> Result<u32, Code> {
         let word = self.word_at(address, width)?;
-        // A number that is read through a reference is known to fit its type, and a field by its path is not.
+        // The page is taken apart, since a word that is read through `self` is not known to fit 32 bits.
         let FlagPage { flags, enable, .. } = self;
         Ok(match word {
             Word::Flags => *flags,

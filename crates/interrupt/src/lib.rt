@@ -61,6 +61,8 @@ pub enum Cause {
     Alignment(DataAccess),
 }
 
+// ESR and DEAR are numbers and no `Option`: a rule of the project is that the answer of a step has 0 where they are not
+// set, as numbers that a caller compares.
 /// What an interrupt tells: which it is, the return address in SRR0, and ESR and DEAR, 0 where it does not set them.
 #[derive(Clone, Copy, PartialEq, Eq, Debug)]
 pub struct Taken {

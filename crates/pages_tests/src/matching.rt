@@ -18,7 +18,7 @@ const SIZES: [(u32, u32, u32); 8] = [
 #[test]
 fn a_page_has_its_size(rt: HostRuntime) -> Result<(), Fail> {
     for (size, first, last) in &SIZES {
-        let pages = only(17, entry(0, 0x1234_5600 | (*size << 4), 0, 0))?;
+        let pages = only(17, entry([0, 0x1234_5600 | (*size << 4), 0, 0]))?;
         let rows = [
             (*first, Some(17)),
             (*last, Some(17)),
@@ -39,7 +39,7 @@ fn a_page_has_its_size(rt: HostRuntime) -> Result<(), Fail> {
 #[test]
 fn other_sizes_never_match(rt: HostRuntime) -> Result<(), Fail> {
     for size in [6u32, 8, 10, 11, 12, 13, 14, 15] {
-        let pages = only(0, entry(0, 0x1234_5600 | (size << 4), 0, 0x3F))?;
+        let pages = only(0, entry([0, 0x1234_5600 | (size << 4), 0, 0x3F]))?;
         for effective in [
             0x1234_5400,
             0x1234_5600,
@@ -69,7 +69,7 @@ const ENDS: [(u32, u32, bool); 8] = [
 #[test]
 fn the_first_and_the_last_page_match(rt: HostRuntime) -> Result<(), Fail> {
     for (word0, effective, matches) in &ENDS {
-        let pages = only(63, entry(0, *word0, 0, 0))?;
+        let pages = only(63, entry([0, *word0, 0, 0]))?;
         let found = matches.then_some(63);
         assert_eq!(rt; pages.search(plain(*effective)), found, "at {effective}");
     }
@@ -102,7 +102,7 @@ const CASES: [(u32, u32, bool, u32, bool); 14] = [
 #[test]
 fn valid_space_and_process_count(rt: HostRuntime) -> Result<(), Fail> {
     for (i, (tid, word0, space, pid, matches)) in CASES.iter().enumerate() {
-        let pages = only(9, entry(*tid, *word0, 0, 0))?;
+        let pages = only(9, entry([*tid, *word0, 0, 0]))?;
         let address = VirtualAddress {
             space: *space,
             pid: *pid,
@@ -130,7 +130,7 @@ fn the_lowest_number_counts(rt: HostRuntime) -> Result<(), Fail> {
     let mut pages = Pages::empty();
     for (number, large, in_both, in_large) in &PUTS {
         let word0 = if *large { 0x0010_0250 } else { 0x0010_0210 };
-        pages.put(*number, entry(0, word0, 0, 0))?;
+        pages.put(*number, entry([0, word0, 0, 0]))?;
         assert_eq!(rt; pages.search(plain(0x0010_0123)), *in_both);
         assert_eq!(rt; pages.search(plain(0x0010_1123)), *in_large);
     }

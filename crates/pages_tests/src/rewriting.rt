@@ -1,21 +1,16 @@
 //! Entries as they are rewritten, replaced and read.
 use crate::setup::*;
-use pages::{Entry, NoSuchEntry, NoSuchWord, Pages, Word};
+use pages::{NoSuchEntry, NoSuchWord, Pages, Word};
 use std::process::Abort;
 use std::test::Fail;
 
 const FULL: u32 = 0xFFFF_FFFF;
 
-fn made(words: [u32; 4]) -> Entry {
-    let [tid, word0, word1, word2] = words;
-    entry(tid, word0, word1, word2)
-}
-
 /// Looks at each entry after a write: that of the number is as given, and all others are zero.
 fn holds_only(rt: &impl Abort, pages: &Pages, write: usize, number: u32, given: [u32; 4]) {
     for n in 0u32..64 {
         let there = if n == number { given } else { [0; 4] };
-        assert_eq!(rt; pages.entry(n), made(there), "write {write}, entry {n}");
+        assert_eq!(rt; pages.entry(n), entry(there), "write {write}, entry {n}");
     }
 }
 
@@ -43,7 +38,7 @@ fn write_through(rt: &impl Abort, selector: u32, number: u32) -> Result<(), Fail
         let word = Word::try_from(*ws)?;
         pages.write(selector, word, *value, *tid);
         holds_only(rt, &pages, i, number, *after);
-        assert_eq!(rt; pages.entry(selector), made(*after), "read {i}");
+        assert_eq!(rt; pages.entry(selector), entry(*after), "read {i}");
     }
     Ok(())
 }
@@ -64,7 +59,7 @@ fn only_six_bits_select_an_entry(rt: HostRuntime) -> Result<(), Fail> {
 #[test]
 fn a_read_changes_nothing_and_takes_six_bits(rt: HostRuntime) -> Result<(), Fail> {
     let given = [0x5A, 0x1234_5670, 0x89AB_CC0F, 0x803F];
-    let pages = only(20, made(given))?;
+    let pages = only(20, entry(given))?;
     for (selector, gives) in [
         (20, given),
         (84, given),
@@ -72,7 +67,7 @@ fn a_read_changes_nothing_and_takes_six_bits(rt: HostRuntime) -> Result<(), Fail
         (19, [0; 4]),
         (21, [0; 4]),
     ] {
-        assert_eq!(rt; pages.entry(selector), made(gives), "selector {selector}");
+        assert_eq!(rt; pages.entry(selector), entry(gives), "selector {selector}");
     }
     holds_only(&rt, &pages, 0, 20, given);
     Ok(())
@@ -81,18 +76,18 @@ fn a_read_changes_nothing_and_takes_six_bits(rt: HostRuntime) -> Result<(), Fail
 #[test]
 fn a_put_replaces_one_entry(rt: HostRuntime) -> Result<(), Fail> {
     let mut pages = Pages::empty();
-    pages.put(63, made([FULL; 4]))?;
+    pages.put(63, entry([FULL; 4]))?;
     holds_only(&rt, &pages, 0, 63, [0xFF, 0xFFFF_FFF0, 0xFFFF_FC0F, 0xFFBF]);
-    pages.put(63, made([3, 0x210, 0x400, 1]))?;
+    pages.put(63, entry([3, 0x210, 0x400, 1]))?;
     holds_only(&rt, &pages, 1, 63, [3, 0x210, 0x400, 1]);
     Ok(())
 }
 
 #[test]
 fn there_are_64_entries(rt: HostRuntime) -> Result<(), Fail> {
-    let mut pages = only(63, made([3, 0x210, 0x400, 1]))?;
+    let mut pages = only(63, entry([3, 0x210, 0x400, 1]))?;
     for number in [64, 65, 127, 128, FULL] {
-        assert_eq!(rt; pages.put(number, made([0; 4])), Err(NoSuchEntry));
+        assert_eq!(rt; pages.put(number, entry([0; 4])), Err(NoSuchEntry));
     }
     holds_only(&rt, &pages, 0, 63, [3, 0x210, 0x400, 1]);
     Ok(())
@@ -114,8 +109,8 @@ const KEPT: [([u32; 4], [u32; 4]); 6] = [
 #[test]
 fn an_entry_keeps_its_bits(rt: HostRuntime) -> Result<(), Fail> {
     for (given, kept) in &KEPT {
-        assert_eq!(rt; made(*given).is_kept(), *given == *kept);
-        let pages = only(33, made(*given))?;
+        assert_eq!(rt; entry(*given).is_kept(), *given == *kept);
+        let pages = only(33, entry(*given))?;
         holds_only(&rt, &pages, 0, 33, *kept);
     }
     Ok(())
@@ -125,16 +120,16 @@ fn an_entry_keeps_its_bits(rt: HostRuntime) -> Result<(), Fail> {
 fn bits_are_kept_one_by_one(rt: HostRuntime) {
     for bit in 0u32..32 {
         let set = 1u32 << bit;
-        assert_eq!(rt; entry(set, 0, 0, 0).is_kept(), bit < 8);
-        assert_eq!(rt; entry(0, set, 0, 0).is_kept(), bit > 3);
-        assert_eq!(rt; entry(0, 0, set, 0).is_kept(), bit < 4 || bit > 9);
-        assert_eq!(rt; entry(0, 0, 0, set).is_kept(), bit < 16 && bit != 6);
+        assert_eq!(rt; entry([set, 0, 0, 0]).is_kept(), bit < 8);
+        assert_eq!(rt; entry([0, set, 0, 0]).is_kept(), bit > 3);
+        assert_eq!(rt; entry([0, 0, set, 0]).is_kept(), bit < 4 || bit > 9);
+        assert_eq!(rt; entry([0, 0, 0, set]).is_kept(), bit < 16 && bit != 6);
     }
 }
 
 #[test]
 fn ws_names_three_words(rt: HostRuntime) -> Result<(), Fail> {
-    let given = entry(1, 0x10, 0x20, 0x30);
+    let given = entry([1, 0x10, 0x20, 0x30]);
     for (ws, value) in [(0u32, 0x10), (1, 0x20), (2, 0x30)] {
         assert_eq!(rt; given.word(Word::try_from(ws)?), value);
     }

@@ -2,7 +2,9 @@
 use pages::{Entry, Pages, VirtualAddress};
 use std::test::Fail;
 
-pub fn entry(tid: u32, word0: u32, word1: u32, word2: u32) -> Entry {
+/// The entry of a TID and three words.
+pub fn entry(words: [u32; 4]) -> Entry {
+    let [tid, word0, word1, word2] = words;
     Entry {
         tid,
         word0,

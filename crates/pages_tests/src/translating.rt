@@ -49,7 +49,10 @@ const REALS: [(u32, u32, u64, u32, u64); 8] = [
 #[test]
 fn the_page_part_is_replaced(rt: HostRuntime) -> Result<(), Fail> {
     for (size, first, real_first, last, real_last) in &REALS {
-        let pages = only(40, entry(1, 0x1234_5600 | (*size << 4), 0xABCD_EC07, 0x08))?;
+        let pages = only(
+            40,
+            entry([1, 0x1234_5600 | (*size << 4), 0xABCD_EC07, 0x08]),
+        )?;
         let rows = [
             (*first, Ok(*real_first)),
             (*last, Ok(*real_last)),
@@ -70,7 +73,7 @@ fn the_page_part_is_replaced(rt: HostRuntime) -> Result<(), Fail> {
 #[test]
 fn the_upper_bits_are_erpn(rt: HostRuntime) -> Result<(), Fail> {
     for erpn in 0u32..16 {
-        let pages = only(1, entry(0, 0x0000_0200, 0x8765_4400 | erpn, 0x3F))?;
+        let pages = only(1, entry([0, 0x0000_0200, 0x8765_4400 | erpn, 0x3F]))?;
         let gives = Ok((u64::from(erpn) << 32) | 0x8765_4721);
         assert_eq!(rt; pages.translate(plain(0x321), SUPERVISOR_FETCH), gives);
     }
@@ -90,8 +93,8 @@ const RIGHTS: [(u32, Right); 6] = [
 #[test]
 fn each_right_grants_one_access_in_one_state(rt: HostRuntime) -> Result<(), Fail> {
     for (bit, right) in &RIGHTS {
-        let one = only(0, entry(0, 0x0000_0210, 0x0000_5000, *bit))?;
-        let others = only(0, entry(0, 0x0000_0210, 0x0000_5000, 0xFFBF ^ *bit))?;
+        let one = only(0, entry([0, 0x0000_0210, 0x0000_5000, *bit]))?;
+        let others = only(0, entry([0, 0x0000_0210, 0x0000_5000, 0xFFBF ^ *bit]))?;
         for (_, asked) in &RIGHTS {
             let (alone, among) = if asked == right {
                 (Ok(0x5678), Err(PageFault::Denied))
@@ -116,12 +119,12 @@ fn each_right_grants_one_access_in_one_state(rt: HostRuntime) -> Result<(), Fail
 #[test]
 fn the_first_match_decides_even_if_it_denies(rt: HostRuntime) -> Result<(), Fail> {
     let mut pages = Pages::empty();
-    pages.put(5, entry(0, 0x0000_0210, 0x0000_5000, 0x08))?;
-    pages.put(4, entry(0, 0x0000_0210, 0x0000_4000, 0x01))?;
+    pages.put(5, entry([0, 0x0000_0210, 0x0000_5000, 0x08]))?;
+    pages.put(4, entry([0, 0x0000_0210, 0x0000_4000, 0x01]))?;
     let (user, supervisor) = both(&pages, 0x678);
     assert_eq!(rt; user, Err(PageFault::Denied));
     assert_eq!(rt; supervisor, Ok(0x4678));
-    pages.put(4, entry(0, 0, 0, 0x3F))?;
+    pages.put(4, entry([0, 0, 0, 0x3F]))?;
     let (user, supervisor) = both(&pages, 0x678);
     assert_eq!(rt; user, Ok(0x5678));
     assert_eq!(rt; supervisor, Err(PageFault::Denied));
@@ -139,9 +142,9 @@ fn both(pages: &Pages, effective: u32) -> (Result<u64, PageFault>, Result<u64, P
 #[test]
 fn space_and_process_of_the_address_count(rt: HostRuntime) -> Result<(), Fail> {
     let mut pages = Pages::empty();
-    pages.put(0, entry(1, 0x0000_0210, 0x0000_1000, 0x3F))?;
-    pages.put(1, entry(2, 0x0000_0210, 0x0000_2000, 0x3F))?;
-    pages.put(2, entry(0, 0x0000_0310, 0x0000_3000, 0x3F))?;
+    pages.put(0, entry([1, 0x0000_0210, 0x0000_1000, 0x3F]))?;
+    pages.put(1, entry([2, 0x0000_0210, 0x0000_2000, 0x3F]))?;
+    pages.put(2, entry([0, 0x0000_0310, 0x0000_3000, 0x3F]))?;
     let rows = [
         (false, 1, Ok(0x1004)),
         (false, 2, Ok(0x2004)),
@@ -163,7 +166,7 @@ fn space_and_process_of_the_address_count(rt: HostRuntime) -> Result<(), Fail> {
 
 #[test]
 fn the_megabyte_page_ends_at_the_next_megabyte(rt: HostRuntime) -> Result<(), Fail> {
-    let pages = only(0, entry(0, 0x0010_0250, 0x0030_0001, 0x3F))?;
+    let pages = only(0, entry([0, 0x0010_0250, 0x0030_0001, 0x3F]))?;
     let rows = [
         (0x001A_BCDE, Ok(0x1_003A_BCDE)),
         (0x0020_0000, Err(PageFault::Miss)),

@@ -51,8 +51,8 @@ impl From<IllegalDeed> for Stop {
     }
 }
 
+// A width is a number of bytes, as a bus takes it; a rest by it would need that it is not 0.
 /// Whether an access of this width may stand at the address.
-// A width is any number, and so a match: a rest by it would need that it is not 0.
 fn aligned(address: u32, width: u32) -> bool
     ensures { result ≡ aligned address width }
 {
@@ -63,8 +63,8 @@ fn aligned(address: u32, width: u32) -> bool
     }
 }
 
+// A function and no `From`: an impl must stand with one of the two types, and neither crate knows the other.
 /// What an access to data is for a page.
-// No `From`: its impl would stand in the crate of one of the two types, which know nothing of each other.
 fn access_of(kind: DataKind) -> Access
     ensures { result ≡ access_of kind }
 {
@@ -101,6 +101,7 @@ fn find_data(core: &Core, access: DataAccess, width: u32) -> Result<u64, Cause>
     Ok(address)
 }
 
+// A bus fault is written out where it is met: a function for the three would take each of the five fields.
 /// Makes a load.
 fn load<B: Bus>(core: &mut Core, bus: &B, loading: Loading) -> Result<Option<Stored>, Stop>
     ensures { finished result (state_of core.new (B.Bus.model bus.now)) ≡ enacted (state_of core.old (B.Bus.model bus.now)) (carries (seen core.old) (reach core.old) (B.Bus.model bus.now) (loads loading core.old.working)) }
@@ -211,8 +212,9 @@ fn go_on<B: Bus>(core: &mut Core, bus: &mut B) -> Result<Option<Stored>, Stop>
     execute(core, bus, instruction)
 }
 
+// A core and a bus are lent apart: whoever holds a core lends it, and the bus is the caller's. A struct of the two
+// borrows would be built for each call.
 /// One step: an external interrupt that is due, or the instruction at the counter.
-// A core and its bus are two parameters, and no struct: a hold lends its core, and the bus is another's.
 #[tactic(auto, unfolding(crate::specs::Steps::interrupting))]
 pub fn step<B: Bus>(core: &mut Core, bus: &mut B) -> Answer
     ensures { outcome result core.new (B.Bus.model bus.new) ≡ stepped (state_of core.old (B.Bus.model bus.old)) }

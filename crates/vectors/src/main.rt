@@ -9,13 +9,12 @@ use word::shift::leading_zeros;
 /// A table whose first entry has the words 0x00100250 and 0x00300001, and all rights.
 fn table() -> Pages {
     let mut pages = Pages::empty();
-    let entry = Entry {
+    pages.entries[0] = Entry {
         tid: 0,
         word0: 0x0010_0250,
         word1: 0x0030_0001,
         word2: 0x3F,
     };
-    let _ = pages.put(0, entry);
     pages
 }
 
