@@ -25,7 +25,7 @@ The status is 0 if the image is sound and every byte is written, and else 1.
 // The memory has the frames below this one.
 const MEMORY_FRAMES: usize = 32;
 
-const MEMORY_BYTES: usize = MEMORY_FRAMES * 1024;
+const MEMORY_BYTES: usize = MEMORY_FRAMES * FRAME as usize;
 
 // The frame of the flag page, and what its word FLAGS is at first.
 const FLAG_FRAME: u64 = 64;

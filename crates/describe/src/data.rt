@@ -23,7 +23,7 @@ impl fmt::Display for WordLine {
 #[derive(Clone, Copy)]
 pub struct Data<'a>(pub image::Data<'a>);
 
-impl<'a> fmt::Display for Data<'a> {
+impl fmt::Display for Data<'_> {
     fn fmt<W: fmt::Write>(&self, f: &mut fmt::Formatter<W>) -> fmt::Result {
         let bytes = self.0.bytes;
         let address = self.0.real_address();

@@ -3,6 +3,8 @@ use crate::flags::{Flag, write_names};
 use image::{PageEntry, real_address};
 use std::fmt;
 
+// What a listing says of an image needs no page table: the bits and the sizes of an entry stand here too.
+
 // Bits of word 0.
 const VALID: u32 = 0x200;
 

@@ -9,7 +9,7 @@ use std::fmt;
 #[derive(Clone, Copy)]
 pub struct Described<'a>(pub Record<'a>);
 
-impl<'a> fmt::Display for Described<'a> {
+impl fmt::Display for Described<'_> {
     fn fmt<W: fmt::Write>(&self, f: &mut fmt::Formatter<W>) -> fmt::Result {
         match self.0 {
             Record::Entry(entry) => write!(f, "{}", Entry(entry)),

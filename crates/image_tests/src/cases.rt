@@ -1,4 +1,4 @@
-// A table of images, sound and damaged, with what the reader gives of each by the rules of the format.
+//! A table of images, sound and damaged, with what the reader gives of each by the rules of the format.
 /// An image in hexadecimal, and what the reader gives of it: its records, and the refusal where there is one.
 #[derive(Clone, Copy)]
 pub struct Case {

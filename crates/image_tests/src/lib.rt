@@ -1,6 +1,6 @@
+//! Runs the reader of images on sound and on damaged ones.
 #![tactic(auto)]
 
-// Runs the reader of images on sound and on damaged ones.
 #[cfg(test)]
 mod cases;
 #[cfg(test)]

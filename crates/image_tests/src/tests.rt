@@ -1,4 +1,4 @@
-// What the reader gives, held against the rules of the format.
+//! What the reader gives, held against the rules of the format.
 use crate::cases::CASES;
 use hexadecimal::parse;
 use image::{

@@ -19,8 +19,10 @@ fn main(rt: HostRuntime) -> ExitCode {
 
 // Prints the records that a reader hands out, up to the first fault, and their number.
 fn list(rt: &impl Print, reader: Reader) -> io::Result<Verdict> {
+    // Counted by hand: `count` would count a refusal too, and takes the records without printing them.
     let mut number = 0;
     for found in reader {
+        // The board has such a match too, which is all that the two share: they differ in what they do with a record and at the end.
         match found {
             Ok(record) => println!(rt; "{}", Described(record))?,
             Err(refusal) => return console::refuse(rt, refusal),
