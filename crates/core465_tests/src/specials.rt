@@ -30,11 +30,11 @@ fn through(number: u32, value: u32) -> Result<u32, IllegalDeed> {
 }
 
 #[test]
-fn every_number_keeps_its_bits(rt: HostRuntime) {
+fn every_number_keeps_its_bits(runtime: HostRuntime) {
     for number in 0..1024u32 {
         for value in [0xFFFF_FFFFu32, 0x0000_0000, 0x5A5A_5A5A, 0xA5A5_A5A5] {
             let expected = kept(number).map(|bits| value & bits);
-            assert_eq!(rt; through(number, value).ok(), expected);
+            assert_eq!(runtime; through(number, value).ok(), expected);
         }
     }
 }

@@ -176,6 +176,7 @@ fn put(rt: &impl Abort, working: &mut Working, name: &str, value: u32) -> Result
     Ok(())
 }
 
+// The tests' own, and not the program's: what the rows expect shall not rest on what they test.
 /// XER of a word: SO, OV and CA are its first bits, the count its last seven.
 fn xer(word: u32) -> Xer {
     Xer {
