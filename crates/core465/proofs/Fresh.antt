@@ -54,4 +54,5 @@ new_kept = record {
   task = (refl, refl);
   vectors = (refl, All-replicate VectorKept 16 0 refl);
   entries = All-replicate Kept 64 blank refl;
+  count = length-replicate 64 blank;
 }

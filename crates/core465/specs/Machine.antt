@@ -1,5 +1,5 @@
 -- A core without its bus, as the state that the specification speaks of. Assumes nothing.
-use Rattle.std.specs.Prelude.{false, List, replicate}
+use Rattle.std.specs.Prelude.{◌≡◌, false, List, length, replicate}
 use Rattle.cpu.specs.declared.registers.Working.{Working}
 use Rattle.cpu.specs.declared.registers.Shown.{Shown}
 use Rattle.cpu.specs.declared.registers.Msr.{Msr}
@@ -15,13 +15,15 @@ pub record Machine : Type 0 where
   pub hidden : Hidden
   pub entries : List Entry
 
--- what every core keeps: registers and entries hold only the bits that they keep, and the counter is a multiple of four
+-- what every core keeps: registers and entries hold only the bits that they keep, the counter is a multiple of four, and there are
+-- 64 entries
 pub record MachineKept (m : Machine) : Type 0 where
   pub working : Kept m.working
   pub saved : SavedKept m.hidden
   pub task : TaskKept m.hidden
   pub vectors : VectorsKept m.hidden
   pub entries : AllKept m.entries
+  pub count : length m.entries ≡ 64
 
 abbrev pub no_msr : Msr
 no_msr = record { ce = false; ee = false; pr = false; me = false; de = false; is = false; ds = false }

@@ -1,5 +1,5 @@
 // The table of the 64 page entries.
-ghost use Rattle.std.specs.Prelude.{◌≡◌, ℕ, ◌<◌, replicate, IfSome, is_ok, nat_lt};
+ghost use Rattle.std.specs.Prelude.{◌≡◌, ℕ, ◌<◌, length, replicate, IfSome, is_ok, nat_lt};
 ghost use Rattle.pages.specs.Entries.{blank, Kept, AllKept};
 ghost use Rattle.pages.specs.Matching.{found, Lowest};
 ghost use Rattle.pages.specs.Translating.{translate, InReal};
@@ -79,6 +79,7 @@ impl Pages {
         ensures answer { is_ok result ≡ nat_lt number 64 }
         ensures value { self.new.entries ≡ with_entry self.old.entries number entry }
         ensures kept { AllKept self.old.entries → AllKept self.new.entries }
+        ensures count { length self.new.entries ≡ 64 }
     {
         if number >= 64 {
             return Err(NoSuchEntry);
@@ -93,6 +94,7 @@ impl Pages {
     pub fn write(&mut self, selector: u32, word: Word, value: u32, tid: u32)
         ensures value { self.new.entries ≡ written self.old.entries selector word value tid }
         ensures kept { AllKept self.old.entries → AllKept self.new.entries }
+        ensures count { length self.new.entries ≡ 64 }
     {
         let number = (selector % 64) as usize;
         self.entries[number].rewrite(word, value, tid);
