@@ -1,8 +1,9 @@
 -- A word shifted left, and right again with its sign, is its low bits extended by their sign. Assumes nothing.
-use Rattle.std.proofs.Common.{◌≡◌, ℕ, suc, ◌+◌, ◌-◌, ◌*◌, ◌/◌, ◌%◌, ◌^◌, ◌<◌, ◌≤◌, Bool, true, false, cond, ltb, ℤ, pos, negsuc, sym, refl, ap, ◌∙◌, arith, w32, to_z, of_z, mod-lt, ltb-true, ltb-false, mul-le-mul_right, mul-le-mul_left, add-mul}
+use Rattle.std.proofs.Common.{◌≡◌, ℕ, suc, ◌+◌, ◌-◌, ◌*◌, ◌/◌, ◌%◌, ◌^◌, ◌<◌, ◌≤◌, Bool, true, false, cond, ltb, nat_lt, ℤ, pos, negsuc, sym, refl, ap, ◌∙◌, arith, w32, to_z, of_z, mod-lt, ltb-true, ltb-false, mul-le-mul_right, mul-le-mul_left, add-mul}
 use Rattle.std.specs.Int.Signed.{shr_z}
 use Rattle.std.proofs.lemmas.Nat.{pow-add, pow_pos, div-mul-add}
-use Rattle.std.proofs.Math.Nat.{mul-div_cancel, mul-lt-mul_of_pos_right}
+use Rattle.std.proofs.Math.Nat.{mul-div_cancel, mul-lt-mul_of_pos_right, mod-eq_of_lt}
+use Rattle.std.proofs.Math.Pow.{pow_mono}
 use Rattle.word.specs.Words.{extended}
 use Rattle.word.proofs.Products.{signed_low, signed_high}
 use Rattle.word.proofs.Rotations.{stays}
@@ -39,3 +40,14 @@ extended_by_shifts k x g h =
     let whole : 2 ^ k * 2 ^ s ≡ 2 ^ 32 = sym (pow-add 2 k s) ∙ ap (λ (n : ℕ). 2 ^ n) t in
     ap (λ (n : ℕ). of_z w32 (shr_z (to_z w32 n) (2 ^ s))) (ap (λ (n : ℕ). x * 2 ^ s % 2 ^ n) (sym t) ∙ stays x s k)
     ∙ moved_back (x % 2 ^ k) (2 ^ (k - 1)) (2 ^ k) (2 ^ s) two (pow_pos s) (mod-lt x (pow_pos k)) whole
+
+-- a field as wide as a word, or wider, is the word
+pub extended_whole : (k x : ℕ) → 32 ≤ k → x < 2 ^ 32 → x ≡ extended k (x % 2 ^ k)
+extended_whole k x h l =
+    let g : 2 ^ 32 ≤ 2 ^ k = pow_mono h in
+    let m : x % 2 ^ k ≡ x = mod-eq_of_lt (omega (arith, l, g)) in
+    sym (ap (extended k) m ∙ by (nat_lt x (2 ^ (k - 1))) g)
+  where
+    by : (t : Bool) → 2 ^ 32 ≤ 2 ^ k → cond t x (x + (2 ^ 32 - 2 ^ k)) ≡ x
+    by true g = refl
+    by false g = omega (arith, g)

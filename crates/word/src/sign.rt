@@ -1,5 +1,5 @@
 //! Words as signed numbers, and narrow fields extended by their sign.
-ghost use Rattle.std.specs.Prelude.{◌≡◌, ℕ, ◌%◌, ◌^◌, ◌<◌, ◌≤◌};
+ghost use Rattle.std.specs.Prelude.{◌≡◌, ℕ, ◌%◌, ◌^◌};
 ghost use Rattle.word.specs.Words.{negative, biased, inverted, extended, reversed, reversed_half};
 
 /// Whether a word's sign bit, bit 0, is set.
@@ -23,13 +23,18 @@ pub fn invert(x: u32) -> u32
     !x
 }
 
-/// The low bits of a word, as many as `BITS`, extended by their sign.
-#[tactic(auto, using(crate::proofs::Extensions::extended_by_shifts))]
+/// The low bits of a word, as many as `BITS`, extended by their sign: 0 where that is none, and the word itself where it
+/// is 32 or more.
+#[tactic(auto, using(crate::proofs::Extensions::extended_by_shifts, crate::proofs::Extensions::extended_whole))]
 pub fn extend<const BITS: u32>(x: u32) -> u32
-    requires some { 0 < BITS }
-    requires fits { BITS ≤ 32 }
     ensures { result ≡ extended BITS (x % 2 ^ BITS) }
 {
+    if BITS == 0 {
+        return 0;
+    }
+    if BITS >= 32 {
+        return x;
+    }
     let spare = 32 - BITS;
     ((x << spare).cast_signed() >> spare).cast_unsigned()
 }
