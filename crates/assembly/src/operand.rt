@@ -1,9 +1,6 @@
 //! The operands of instructions.
-ghost use Rattle.std.specs.Prelude.{◌<◌, ◌≤◌};
-
 use isa::instruction::*;
 use std::fmt;
-use word::sign::extend;
 
 /// An operand.
 #[derive(Clone, Copy)]
@@ -53,9 +50,21 @@ fn base<W: fmt::Write>(f: &mut fmt::Formatter<W>, number: u32) -> fmt::Result {
     }
 }
 
+// `extend` of word would drop what a field of an instruction that no word stands for has above its bits, which is shown
+// as it is.
+/// A field with its sign; the field's sign bit counts for `half`.
+fn extended(field: u32, half: u32) -> i32 {
+    let low = if field < half {
+        field
+    } else {
+        field.wrapping_sub(half).wrapping_sub(half)
+    };
+    low.cast_signed()
+}
+
 /// A field of 16 bits with its sign.
 fn short(field: u32) -> i32 {
-    extend::<16>(field).cast_signed()
+    extended(field, 0x8000)
 }
 
 /// A field of 16 bits as a number with a sign.
@@ -63,16 +72,13 @@ fn immediate(field: u32) -> Operand {
     Signed(short(field))
 }
 
-/// The target of a branch, from a field of `BITS` bits that counts words.
-fn target<const BITS: u32>(displacement: u32, absolute: bool) -> Operand
-    requires some { 0 < BITS }
-    requires fits { BITS ≤ 32 }
-{
-    let bytes = extend::<BITS>(displacement).wrapping_mul(4);
+/// The target of a branch, from a field that counts words and whose sign bit counts for `half`.
+fn target(displacement: u32, half: u32, absolute: bool) -> Operand {
+    let bytes = extended(displacement, half).wrapping_mul(4);
     if absolute {
-        Address(bytes)
+        Address(bytes.cast_unsigned())
     } else {
-        Distance(bytes.cast_signed())
+        Distance(bytes)
     }
 }
 
@@ -129,7 +135,7 @@ fn trapped(i: TrapImmediate) -> [Operand; 3] {
 
 /// The operands of a conditional branch.
 fn conditional(i: BranchConditional) -> [Operand; 3] {
-    let target = target::<14>(i.displacement, i.absolute);
+    let target = target(i.displacement, 0x2000, i.absolute);
     [Number(i.options), Number(i.bit), target]
 }
 
@@ -164,7 +170,7 @@ pub fn operands<W: fmt::Write>(f: &mut fmt::Formatter<W>, instruction: Instructi
         Instruction::TrapImmediate(i) => list(f, &trapped(i)),
         Instruction::Load(i) => access(f, i.rt, i.ra, i.offset),
         Instruction::Store(i) => access(f, i.rs, i.ra, i.offset),
-        Instruction::Branch(i) => list(f, &[target::<24>(i.displacement, i.absolute)]),
+        Instruction::Branch(i) => list(f, &[target(i.displacement, 0x80_0000, i.absolute)]),
         Instruction::BranchConditional(i) => list(f, &conditional(i)),
         Instruction::BranchRegister(i) => list(f, &[Number(i.options), Number(i.bit)]),
         Instruction::SystemCall => Ok(()),
