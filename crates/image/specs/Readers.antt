@@ -1,13 +1,13 @@
 -- What a reader and its answers say. Assumes nothing.
 use Rattle.std.specs.Prelude.{◌≡◌, ℕ, ◌+◌, ◌<◌, List, [], length, Some, None, Ok, Err, Option, Result}
-use Rattle.std.specs.Option.{option_transpose}
+use Rattle.std.specs.Option.{option_transpose, option_map}
 use Rattle.image.specs.declared.reader.Found.{Found}
 use Rattle.image.specs.declared.reader.Reader.{Reader}
 use Rattle.image.specs.declared.record.Record.{Record}
 use Rattle.image.specs.declared.records.Records.{Records}
 use Rattle.image.specs.declared.refusal.Reason.{Reason}
 use Rattle.image.specs.declared.refusal.Refusal.{Refusal}
-use Rattle.image.specs.Reading.{Place, Step, one, end, refused, fault, more, walked}
+use Rattle.image.specs.Reading.{Place, Step, one, end, refused, fault, step, more, walked}
 use Rattle.image.specs.Records.{Item, InRange, is_start}
 use Rattle.image.specs.Values.{item}
 
@@ -83,9 +83,31 @@ Over (Some (Ok r)) t = Unit {0}
 Over (Some (Err e)) t = t.reader ≡ None
 Over None t = t.reader ≡ None
 
--- what a loop sees in a turn, with what is to come after it, is what was to come before it; a record is in range, and after a
--- refusal or the end nothing comes
+-- what a loop sees of a record or a refusal
+abbrev pub told_item : Result Record Refusal → Result Item Refusal
+told_item (Ok r) = Ok (item r)
+told_item (Err e) = Err e
+
+-- what a loop sees in a turn, and where its reader then stands
+pub record Seen : Type 0 where
+  pub told : Option (Result Item Refusal)
+  pub place : Option Place
+
+-- a record is seen and read over; a refusal is seen, and then the reader is gone, as at the end
+abbrev pub seen_at : Step → Seen
+seen_at (one i q) = record { told = Some (Ok i); place = Some q }
+seen_at (end q) = record { told = None; place = None }
+seen_at (refused e q) = record { told = Some (Err e); place = None }
+
+-- what is to be seen where a reader stands, and nothing where it is gone
+abbrev pub to_see : Option Reader → Seen
+to_see (Some r) = seen_at (step (place r))
+to_see None = record { told = None; place = None }
+
+-- what a loop sees in a turn, with what is to come after it, is what was to come before it; it is just what stands where the
+-- reader was; a record is in range, and after a refusal or the end nothing comes
 pub record Turn (s : Records) (seen : Option (Result Record Refusal)) (t : Records) : Type 0 where
   pub whole : told (option_transpose seen) (to_come t) ≡ to_come s
+  pub exact : ◌≡◌ {A = Seen} (record { told = option_map told_item seen; place = option_map place t.reader }) (to_see s.reader)
   pub ranges : Ranges (option_transpose seen)
   pub over : Over seen t
