@@ -1,7 +1,7 @@
 //! What supervisor state does with a privileged deed.
 ghost use Rattle.std.specs.Prelude.{◌≡◌, Some, None};
 ghost use Rattle.cpu.specs.Known.{Known};
-ghost use Rattle.core465.specs.Machine.{new_machine};
+ghost use Rattle.core465.specs.Machine.{new_machine, MachineKept};
 ghost use Rattle.core465.specs.Deeds.{advanced, giving, with_working, stid_from, with_msr, with_ee, returned, special_of, with_special_of, read_special, write_special, read_entry, write_entry, reported, searched, carried_out};
 ghost use Rattle.core465.specs.Specials.{special_named};
 ghost use Rattle.pages.specs.Matching.{found};
@@ -50,7 +50,8 @@ impl From<NoSuchWord> for IllegalDeed {
 impl Core {
     /// A new core: zero everywhere, and the line down.
     pub fn new() -> Core
-        ensures { result ≡ new_machine }
+        ensures is { result ≡ new_machine }
+        ensures keeps { MachineKept result }
     {
         // Part by part, and not derived: the invariant is proved at this literal.
         Core {
@@ -86,7 +87,8 @@ impl Core {
 
     /// A special purpose register's word.
     pub fn special(&self, register: Special) -> u32
-        ensures { result ≡ special_of register self.now }
+        ensures is { result ≡ special_of register self.now }
+        ensures keeps { MachineKept self.now }
     {
         match register {
             Special::Sprg(k) if k >= 4 => self.shown.sprg[(k % 4) as usize],
@@ -96,7 +98,8 @@ impl Core {
 
     /// A word to a special purpose register.
     pub fn set_special(&mut self, register: Special, value: u32)
-        ensures { self.new ≡ with_special_of register value self.old }
+        ensures is { self.new ≡ with_special_of register value self.old }
+        ensures keeps { MachineKept self.new }
     {
         match register {
             Special::Sprg(k) if k >= 4 => self.shown.sprg[(k % 4) as usize] = value,
@@ -181,6 +184,17 @@ impl Core {
 
     /// A privileged deed in supervisor state. Where it names a register or a word that there is not, nothing changes.
     pub fn carry_out(&mut self, deed: Privileged) -> Result<(), IllegalDeed>
+        ensures is { Known result self.old self.new (carried_out deed self.old) }
+        ensures keeps { MachineKept self.new }
+    {
+        let done = self.attempt(deed);
+        // Looked into once more, so that what every core keeps is known of it.
+        let _ = &self.working;
+        done
+    }
+
+    /// A privileged deed, or why there is none.
+    fn attempt(&mut self, deed: Privileged) -> Result<(), IllegalDeed>
         ensures { Known result self.old self.new (carried_out deed self.old) }
     {
         match deed {

@@ -1,6 +1,7 @@
 //! What an interrupt does to a core.
 ghost use Rattle.std.specs.Prelude.{◌≡◌};
 ghost use Rattle.interrupt.specs.Interrupts.{taken};
+ghost use Rattle.core465.specs.Machine.{MachineKept};
 ghost use Rattle.core465.specs.Interrupting.{entering, interrupted};
 
 use crate::machine::Core;
@@ -25,6 +26,7 @@ impl Core {
     pub fn interrupt(&mut self, cause: Cause) -> Taken
         ensures answer { result ≡ taken cause self.old.working.pc }
         ensures after { self.new ≡ interrupted cause self.old }
+        ensures keeps { MachineKept self.new }
     {
         let counter = self.working.pc;
         let msr = self.shown.msr;

@@ -2,6 +2,7 @@
 ghost use Rattle.std.specs.Prelude.{◌≡◌, length};
 ghost use Rattle.cpu.specs.Kept.{Kept};
 ghost use Rattle.pages.specs.Entries.{AllKept, Kept as EntryKept};
+ghost use Rattle.core465.specs.Machine.{MachineKept};
 ghost use Rattle.core465.specs.Hidden.{HiddenKept};
 ghost use Rattle.pages.specs.Tables.{selected};
 
@@ -15,13 +16,15 @@ impl Core {
     pub fn working(&self) -> Working
         ensures value { result ≡ self.now.working }
         ensures kept { Kept result }
+        ensures keeps { MachineKept self.now }
     {
         self.working
     }
 
     /// The registers that user state sees and does not alter.
     pub fn shown(&self) -> Shown
-        ensures { result ≡ self.now.shown }
+        ensures is { result ≡ self.now.shown }
+        ensures keeps { MachineKept self.now }
     {
         self.shown
     }
@@ -30,6 +33,7 @@ impl Core {
     pub fn hidden(&self) -> Hidden
         ensures value { result ≡ self.now.hidden }
         ensures kept { HiddenKept result }
+        ensures keeps { MachineKept self.now }
     {
         self.hidden
     }
@@ -40,6 +44,7 @@ impl Core {
         ensures kept { EntryKept result }
         ensures all { AllKept self.now.entries }
         ensures count { length self.now.entries ≡ 64 }
+        ensures keeps { MachineKept self.now }
     {
         self.pages.entry(number)
     }

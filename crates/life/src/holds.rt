@@ -2,6 +2,7 @@
 ghost use Rattle.std.specs.Prelude.{◌≡◌};
 ghost use Rattle.bus.specs.Model.{Model};
 ghost use Rattle.step.specs.Steps.{state_of};
+ghost use Rattle.core465.specs.Machine.{MachineKept};
 ghost use Rattle.life.specs.Lives as Lives;
 ghost use Rattle.life.specs.Lives.{called, replied, drive, running, stopped, retired, born};
 ghost use Rattle.life.specs.declared.reply.Reply.TheVariants as replies;
@@ -18,11 +19,13 @@ use step::{Ran, RunRefusal};
 /// A stopped core: a hold that must be spent by `resume` or by `retire`.
 pub struct Stopped {
     core: Core,
+    ghost keeps: { MachineKept core },
 }
 
 /// A running core. It is stopped before it is retired.
 pub struct Running {
     core: Core,
+    ghost keeps: { MachineKept core },
 }
 
 #[tactic(auto, unfolding(crate::specs::Lives::called))]

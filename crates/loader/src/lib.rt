@@ -5,6 +5,7 @@ ghost use Rattle.std.specs.Prelude.{◌≡◌, ℕ, ◌+◌, ◌*◌, ◌%◌, �
 ghost use Rattle.image.specs.Readers.{remaining};
 ghost use Rattle.image.specs.Records.{InRange};
 ghost use Rattle.image.specs.Values.{item};
+ghost use Rattle.core465.specs.Machine.{MachineKept};
 ghost use Rattle.step.specs.Steps.{state_of};
 ghost use Rattle.loader.specs.Law.{LoadingLaw};
 ghost use Rattle.loader.specs.Loading.{serves, accepts, screened, checked, entry_of, applied, Loaded, loaded_by, loaded};
@@ -67,7 +68,8 @@ fn entry_of(page: PageEntry) -> Entry
 /// Loads a record.
 fn apply<B: Bus>(core: &mut Core, bus: &mut B, part: Record)
     requires { InRange (item part) }
-    ensures { state_of core.new (B.Bus.model bus.new) ≡ applied (item part.entry) (state_of core.old (B.Bus.model bus.old)) }
+    ensures does { state_of core.new (B.Bus.model bus.new) ≡ applied (item part.entry) (state_of core.old (B.Bus.model bus.old)) }
+    ensures keeps { MachineKept core.old → MachineKept core.new }
 {
     match part {
         Record::Entry(page) => core.set_entry(u32::from(page.number), entry_of(page)),
@@ -85,7 +87,8 @@ fn apply<B: Bus>(core: &mut Core, bus: &mut B, part: Record)
 /// Loads the records that a reader has yet to hand out, of an image that was checked.
 fn apply_all<B: Bus>(core: &mut Core, bus: &mut B, mut reader: Reader)
     requires { is_ok (remaining reader) ≡ true }
-    ensures { state_of core.new (B.Bus.model bus.new) ≡ (loaded_by (remaining reader.entry) (state_of core.old (B.Bus.model bus.old))).state }
+    ensures does { state_of core.new (B.Bus.model bus.new) ≡ (loaded_by (remaining reader.entry) (state_of core.old (B.Bus.model bus.old))).state }
+    ensures keeps { MachineKept core.old → MachineKept core.new }
 {
     // No `for`: it would have to say what comes of a refusal, and none is left in an image that was checked.
     while let Ok(Some(part)) = reader.next() {
@@ -98,8 +101,11 @@ fn apply_all<B: Bus>(core: &mut Core, bus: &mut B, mut reader: Reader)
 // A core and a bus are lent apart, and not as one value: a hold lends its core and not its bus.
 pub fn load<B: Bus>(core: &mut Core, bus: &mut B, image: &[u8]) -> Result<(), Refusal>
     ensures does { ◌≡◌ {A = Loaded} (record { answer = result; state = state_of core.new (B.Bus.model bus.new) }) (loaded image.now (state_of core.old (B.Bus.model bus.old))) }
+    ensures keeps { MachineKept core.new }
     ensures lawful { LoadingLaw }
 {
+    // Looked at, so that what every core keeps is known of this one, refused or not.
+    let _ = core.counter();
     screen(bus, image)?;
     apply_all(core, bus, Reader::open(image)?);
     Ok(())

@@ -1,6 +1,7 @@
 //! Registers and page entries, put from outside.
 ghost use Rattle.std.specs.Prelude.{◌≡◌, ℕ, ◌<◌, Bool};
 ghost use Rattle.std.specs.Option.{unwrap_or};
+ghost use Rattle.core465.specs.Machine.{MachineKept};
 ghost use Rattle.service.specs.Putting.{fits, mask_of, put_number, put_special, put_answer, put_machine};
 ghost use Rattle.service.specs.declared.putting.PutRefusal.TheVariants.{Unfit};
 
@@ -92,6 +93,7 @@ fn mask_of(number: u32) -> Option<u32>
 fn put_special(core: &mut Core, number: u32, value: u32) -> Result<(), PutRefusal>
     ensures answer { result ≡ put_answer (put_special number value core.old) }
     ensures after { core.new ≡ unwrap_or (put_special number value core.old) core.old }
+    ensures keeps { MachineKept core.old → MachineKept core.new }
 {
     let mask = mask_of(number).ok_or(PutRefusal::Unfit)?;
     if !fits(mask, value) {
@@ -105,7 +107,10 @@ fn put_special(core: &mut Core, number: u32, value: u32) -> Result<(), PutRefusa
 pub fn put_value(core: &mut Core, what: Put) -> Result<(), PutRefusal>
     ensures answer { result ≡ put_answer (put_machine what core.old) }
     ensures after { core.new ≡ unwrap_or (put_machine what core.old) core.old }
+    ensures keeps { MachineKept core.new }
 {
+    // Looked at, so that what every core keeps is known of this one, refused or not.
+    let _ = core.counter();
     match what {
         Put::Gpr { number, value } if number < 32 => core.set_word(number, value),
         Put::Special { number, value } => put_special(core, number, value)?,

@@ -1,5 +1,6 @@
 //! Many steps.
 ghost use Rattle.std.specs.Prelude.{◌≡◌, ℕ, ◌%◌, ◌^◌, ◌<◌, ◌≤◌, Bool};
+ghost use Rattle.core465.specs.Machine.{MachineKept};
 ghost use Rattle.step.specs.Steps.{state_of};
 ghost use Rattle.step.specs.Runs.{ends, run_refusal_number, Finished, ran, ran_on};
 
@@ -58,8 +59,11 @@ impl Answer {
 
 /// Up to `n` steps, ended by an interrupt or a bus fault. Refuses no step, and more than `MOST_STEPS`.
 pub fn run<B: Bus>(core: &mut Core, bus: &mut B, n: u32) -> Result<Ran, RunRefusal>
-    ensures { ◌≡◌ {A = Finished} (record { result = result; state = state_of core.new (B.Bus.model bus.new) }) (ran n (state_of core.old (B.Bus.model bus.old))) }
+    ensures does { ◌≡◌ {A = Finished} (record { result = result; state = state_of core.new (B.Bus.model bus.new) }) (ran n (state_of core.old (B.Bus.model bus.old))) }
+    ensures keeps { MachineKept core.new }
 {
+    // Looked at, so that what every core keeps is known of this one, refused or not.
+    let _ = core.counter();
     if n == 0 || n > MOST_STEPS {
         return Err(RunRefusal::BadCount);
     }

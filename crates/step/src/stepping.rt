@@ -3,6 +3,7 @@ ghost use Rattle.std.specs.Prelude.{◌≡◌, ℕ, ◌%◌, false};
 ghost use Rattle.bus.specs.Model.{Model};
 ghost use Rattle.cpu.specs.Effects.{effect, loads, stores, probe};
 ghost use Rattle.cpu.specs.Memory.{settled};
+ghost use Rattle.core465.specs.Machine.{MachineKept};
 ghost use Rattle.core465.specs.Reaching.{seen, reach};
 ghost use Rattle.interrupt.specs.declared.Cause.TheVariants.{Program};
 ghost use Rattle.interrupt.specs.declared.ProgramFault.TheVariants.{Illegal};
@@ -87,7 +88,8 @@ fn find_instruction(core: &Core) -> Result<u64, Cause>
 
 /// The real address of a load or a store, or the interrupt.
 fn find_data(core: &Core, access: DataAccess, width: u32) -> Result<u64, Cause>
-    ensures { result ≡ goes (reach core.now) access width }
+    ensures is { result ≡ goes (reach core.now) access width }
+    ensures keeps { MachineKept core.now }
 {
     let address = core
         .translate(access_of(access.kind), access.effective)
@@ -104,7 +106,8 @@ fn find_data(core: &Core, access: DataAccess, width: u32) -> Result<u64, Cause>
 // A bus fault is written out where it is met: a function for the three would take each of the five fields.
 /// Makes a load.
 fn load<B: Bus>(core: &mut Core, bus: &B, loading: Loading) -> Result<Option<Stored>, Stop>
-    ensures { finished result (state_of core.new (B.Bus.model bus.now)) ≡ enacted (state_of core.old (B.Bus.model bus.now)) (carries (seen core.old) (reach core.old) (B.Bus.model bus.now) (loads loading core.old.working)) }
+    ensures does { finished result (state_of core.new (B.Bus.model bus.now)) ≡ enacted (state_of core.old (B.Bus.model bus.now)) (carries (seen core.old) (reach core.old) (B.Bus.model bus.now) (loads loading core.old.working)) }
+    ensures keeps { MachineKept core.new }
 {
     let access = DataAccess {
         effective: loading.address,
@@ -125,7 +128,8 @@ fn load<B: Bus>(core: &mut Core, bus: &B, loading: Loading) -> Result<Option<Sto
 
 /// Makes a store.
 fn store<B: Bus>(core: &mut Core, bus: &mut B, storing: Storing) -> Result<Option<Stored>, Stop>
-    ensures { finished result (state_of core.new (B.Bus.model bus.new)) ≡ enacted (state_of core.old (B.Bus.model bus.old)) (carries (seen core.old) (reach core.old) (B.Bus.model bus.old) (stores storing core.old.working)) }
+    ensures does { finished result (state_of core.new (B.Bus.model bus.new)) ≡ enacted (state_of core.old (B.Bus.model bus.old)) (carries (seen core.old) (reach core.old) (B.Bus.model bus.old) (stores storing core.old.working)) }
+    ensures keeps { MachineKept core.new }
 {
     let access = DataAccess {
         effective: storing.address,
@@ -150,7 +154,8 @@ fn store<B: Bus>(core: &mut Core, bus: &mut B, storing: Storing) -> Result<Optio
 
 /// A conditional store without a reservation: a store's match, right and alignment, and no bus.
 fn try_store(core: &mut Core, address: u32) -> Result<Option<Stored>, Stop>
-    ensures { (m : Model) → finished result (state_of core.new m) ≡ enacted (state_of core.old m) (carries (seen core.old) (reach core.old) m (probe address 4 (settled false core.old.working))) }
+    ensures does { (m : Model) → finished result (state_of core.new m) ≡ enacted (state_of core.old m) (carries (seen core.old) (reach core.old) m (probe address 4 (settled false core.old.working))) }
+    ensures keeps { MachineKept core.new }
 {
     let access = DataAccess {
         effective: address,
@@ -163,7 +168,8 @@ fn try_store(core: &mut Core, address: u32) -> Result<Option<Stored>, Stop>
 
 /// A privileged deed, which user state may not do.
 fn carry_out(core: &mut Core, deed: Privileged) -> Result<Option<Stored>, Stop>
-    ensures { (m : Model) → finished result (state_of core.new m) ≡ enacted (state_of core.old m) (permits (seen core.old) deed) }
+    ensures does { (m : Model) → finished result (state_of core.new m) ≡ enacted (state_of core.old m) (permits (seen core.old) deed) }
+    ensures keeps { MachineKept core.new }
 {
     if core.user() {
         return Err(Stop::Interrupt(Cause::Program(ProgramFault::Privileged)));
@@ -178,7 +184,8 @@ fn execute<B: Bus>(
     bus: &mut B,
     instruction: Instruction,
 ) -> Result<Option<Stored>, Stop>
-    ensures { finished result (state_of core.new (B.Bus.model bus.new)) ≡ enacted (state_of core.old (B.Bus.model bus.old)) (carries (seen core.old) (reach core.old) (B.Bus.model bus.old) (effect instruction (seen core.old))) }
+    ensures does { finished result (state_of core.new (B.Bus.model bus.new)) ≡ enacted (state_of core.old (B.Bus.model bus.old)) (carries (seen core.old) (reach core.old) (B.Bus.model bus.old) (effect instruction (seen core.old))) }
+    ensures keeps { MachineKept core.new }
 {
     match core.perform(instruction) {
         Deed::Finished => Ok(None),
@@ -195,7 +202,8 @@ fn execute<B: Bus>(
 /// The instruction at the counter, unless an external interrupt is due.
 #[tactic(auto, unfolding(crate::specs::Plans::planned, crate::specs::Steps::stepped))]
 fn go_on<B: Bus>(core: &mut Core, bus: &mut B) -> Result<Option<Stored>, Stop>
-    ensures { finished result (state_of core.new (B.Bus.model bus.new)) ≡ stepped (state_of core.old (B.Bus.model bus.old)) }
+    ensures does { finished result (state_of core.new (B.Bus.model bus.new)) ≡ stepped (state_of core.old (B.Bus.model bus.old)) }
+    ensures keeps { MachineKept core.new }
 {
     if core.external() {
         return Err(Stop::Interrupt(Cause::ExternalInput));
@@ -217,7 +225,8 @@ fn go_on<B: Bus>(core: &mut Core, bus: &mut B) -> Result<Option<Stored>, Stop>
 /// One step: an external interrupt that is due, or the instruction at the counter.
 #[tactic(auto, unfolding(crate::specs::Steps::interrupting))]
 pub fn step<B: Bus>(core: &mut Core, bus: &mut B) -> Answer
-    ensures { outcome result core.new (B.Bus.model bus.new) ≡ stepped (state_of core.old (B.Bus.model bus.old)) }
+    ensures does { outcome result core.new (B.Bus.model bus.new) ≡ stepped (state_of core.old (B.Bus.model bus.old)) }
+    ensures keeps { MachineKept core.new }
 {
     match go_on(core, bus) {
         Ok(stored) => Answer::Done(stored),

@@ -15,5 +15,6 @@ loop-part-preserved g c =
     let ok : is_ok (more i r) ≡ true = ap is_ok whole ∙ c.loop-part.invariant.0 in
     let s = state_of c.loop-part.core (g.B.Bus.model c.loop-part.bus) in (
       more_ok i r ok,
-      ap (λ (t : State). (loaded_by r t).state) c.apply.ensures ∙ more-loaded i r s ok ∙ ap (λ x. (loaded_by x s).state) whole ∙ c.loop-part.invariant.1,
+      ap (λ (t : State). (loaded_by r t).state) c.apply.ensures.does ∙ more-loaded i r s ok ∙ ap (λ x. (loaded_by x s).state) whole ∙ c.loop-part.invariant.1,
+      λ k. c.apply.ensures.keeps (c.loop-part.invariant.2 k),
     )

@@ -13,6 +13,7 @@ returns-in_err-screen g c =
     let m = g.B.Bus.model c.args.bus.now in
     record {
       does = rw (exit.1, exit.2) (refuses (screened m c.args.image.now) c.in_err-screen.field-0.0 (state_of c.args.core.now m) c.in_err-screen.ensures);
+      keeps = c.counter.ensures.keeps;
       lawful = loading_law;
     }
 
@@ -25,6 +26,7 @@ pub returns : goal.returns
 returns g c =
     record {
       does = loads c.args.image.now (state_of c.args.core.now (g.B.Bus.model c.args.bus.now)) (remaining c.in_ok-open.field-0) c.in_ok-open.ensures.whole
-          c.in_ok-screen.ensures _ c.apply_all.ensures;
+          c.in_ok-screen.ensures _ c.apply_all.ensures.does;
+      keeps = c.apply_all.ensures.keeps c.counter.ensures.keeps;
       lawful = loading_law;
     }
