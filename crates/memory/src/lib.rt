@@ -13,10 +13,12 @@ fn get(bytes: &[u8], place: usize, width: u32) -> u32
     requires { (IsWidth width) × (place + width ≤ length bytes.now) }
     ensures { result ≡ big_endian (byte_of bytes.now) place width }
 {
-    let width = width as usize;
-    let mut word = [0; 4];
-    word[4 - width..].copy_from_slice(&bytes[place..place + width]);
-    u32::from_be_bytes(word)
+    match (width, &bytes[place..]) {
+        (1, [byte, ..]) => u32::from(*byte),
+        (2, [high, low, ..]) => u32::from(u16::from_be_bytes([*high, *low])),
+        (_, [a, b, c, d, ..]) => u32::from_be_bytes([*a, *b, *c, *d]),
+        _ => unreachable!(),
+    }
 }
 
 // Puts the value there, big-endian.
@@ -24,9 +26,12 @@ fn put(bytes: &mut [u8], place: usize, width: u32, value: u32)
     requires { (IsWidth width) × (place + width ≤ length bytes.old) }
     ensures { (k : ℕ) → byte_of bytes.new k ≡ put_at (byte_of bytes.old) place width value k }
 {
-    let width = width as usize;
     let word = value.to_be_bytes();
-    bytes[place..place + width].copy_from_slice(&word[4 - width..]);
+    match width {
+        1 => bytes[place] = word[3],
+        2 => bytes[place..place + 2].copy_from_slice(&word[2..]),
+        _ => bytes[place..place + 4].copy_from_slice(&word),
+    }
 }
 
 /// Plain memory over a slice that the caller lends: the slice is a window of real addresses that begins at the
