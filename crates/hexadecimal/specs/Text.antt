@@ -53,7 +53,7 @@ abbrev pub whole : List ℕ → Result (List ℕ) Fault
 whole ds = cond (length ds % 2 == 1) (Err HalfByte) (Ok (pairs ds))
 
 -- a fault where there is such a character, and else the rest
-abbrev pub unless : Option ℕ → Result (List ℕ) Fault → Result (List ℕ) Fault
+abbrev pub unless : {A : Type 0} → Option ℕ → Result A Fault → Result A Fault
 unless (Some at) r = Err (NoDigit at)
 unless None r = r
 

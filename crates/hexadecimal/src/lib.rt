@@ -1,8 +1,8 @@
 //! Bytes written as hexadecimal text.
 #![tactic(auto)]
 
-ghost use Rattle.std.specs.Prelude.{◌≡◌, ◌<◌, length, All, IfOk};
-ghost use Rattle.hexadecimal.specs.Text.{symbol_of, digit_of, is_known, unknown, digits, pairs, Small, Told};
+ghost use Rattle.std.specs.Prelude.{◌≡◌, ◌≤◌, length, IfOk};
+ghost use Rattle.hexadecimal.specs.Text.{symbol_of, digit_of, unknown, digits, pairs, unless, Small, Told};
 ghost use Rattle.hexadecimal.specs.declared.Fault.TheVariants.{NoMemory};
 
 use std::alloc::{AllocError, Global};
@@ -58,12 +58,6 @@ impl Symbol {
             Symbol::Space | Symbol::Other => None,
         }
     }
-
-    fn is_known(self) -> bool
-        ensures { result ≡ is_known self }
-    {
-        !matches!(self, Symbol::Other)
-    }
 }
 
 fn classify(character: u8) -> Symbol
@@ -71,6 +65,8 @@ fn classify(character: u8) -> Symbol
     ensures small { Small result }
 {
     match character {
+        // Ahead of the digits, since a text may have more spaces than anything else.
+        b' ' => Symbol::Space,
         b'0'..=b'9' => Symbol::Digit(character - b'0'),
         b'A'..=b'F' => Symbol::Digit(character - b'A' + 10),
         b'a'..=b'f' => Symbol::Digit(character - b'a' + 10),
@@ -79,43 +75,41 @@ fn classify(character: u8) -> Symbol
     }
 }
 
-// Where the first character stands that is neither a digit nor white space.
-fn unknown(text: &[u8]) -> Option<usize>
-    ensures { result ≡ unknown text.now }
+// The number of digits in a text that has digits and white space alone.
+fn count(text: &[u8]) -> Result<usize, Fault>
+    ensures { result ≡ unless (unknown text.now) (Ok (length (digits text.now))) }
 {
-    text.iter()
-        .position(|character| !classify(*character).is_known())
+    let mut number = 0;
+    for (offset, character) in text.iter().enumerate() {
+        match classify(*character) {
+            Symbol::Digit(_) => number += 1,
+            Symbol::Space => {}
+            Symbol::Other => return Err(Fault::NoDigit { offset }),
+        }
+    }
+    Ok(number)
 }
 
-// The number of digits in a text.
-fn count(text: &[u8]) -> usize
-    ensures { result ≡ length (digits text.now) }
-{
-    text.iter()
-        .filter_map(|character| classify(*character).digit())
-        .count()
-}
-
-// The values of the digits of a text.
-fn values(heap: Global, text: &[u8]) -> Result<Vec<u8>, AllocError>
-    ensures all { IfOk result (λ v. v.items ≡ digits text.now) }
-    ensures small { IfOk result (λ v. All (λ d. d < 16) v.items) }
-{
-    text.iter()
-        .filter_map(|character| classify(*character).digit())
-        .collect(heap)
-}
-
-// The bytes that some digits are in pairs. Half a byte at the end is dropped.
-fn gather(heap: Global, mut digits: &[u8]) -> Result<Vec<u8>, AllocError>
-    requires { All (λ d. d < 16) digits.now }
-    ensures { IfOk result (λ v. v.items ≡ pairs digits.now) }
+// The bytes that the digits of a text are in pairs, where it has at most so many digits. Half a byte at the end is dropped.
+fn gather(heap: Global, text: &[u8], number: usize) -> Result<Vec<u8>, AllocError>
+    requires { length (digits text.now) ≤ number }
+    ensures { IfOk result (λ v. v.items ≡ pairs (digits text.now)) }
 {
     let mut bytes = Vec::new(heap);
-    // Two from the front in each turn, as `pairs` says it: chunks are no plainer, and their law would need one more for pairs.
-    while let [high, low, rest @ ..] = digits {
-        bytes.push(high * 16 + low)?;
-        digits = rest;
+    let mut first = None;
+    // No more than the digits are asked for, so that what stands behind the last is not gone over again.
+    for digit in text
+        .iter()
+        .filter_map(|character| classify(*character).digit())
+        .take(number)
+    {
+        first = match first {
+            None => Some(digit),
+            Some(high) => {
+                bytes.push(high * 16 + digit)?;
+                None
+            }
+        };
     }
     Ok(bytes)
 }
@@ -125,13 +119,10 @@ fn gather(heap: Global, mut digits: &[u8]) -> Result<Vec<u8>, AllocError>
 pub fn parse(heap: Global, text: &[u8]) -> Result<Vec<u8>, Fault>
     ensures { Told result text.now }
 {
-    if let Some(offset) = unknown(text) {
-        return Err(Fault::NoDigit { offset });
-    }
     // Counted before they are kept, so that no memory is taken for a text that is refused.
-    if count(text) % 2 == 1 {
+    let number = count(text)?;
+    if number % 2 == 1 {
         return Err(Fault::HalfByte);
     }
-    let digits = values(heap, text)?;
-    Ok(gather(heap, &digits)?)
+    Ok(gather(heap, text, number)?)
 }
